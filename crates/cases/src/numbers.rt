@@ -1,0 +1,108 @@
+// Stored numbers: every length, both borders of each, and each refusal.
+use crate::show;
+use number::Drawn;
+use number::Written;
+
+// What stands at a position.
+fn read(bytes: &[u8], at: usize) {
+    show::text(b"read");
+    show::bytes(bytes);
+    show::text(b" at ");
+    show::count(at);
+    show::text(b": ");
+    match number::number_at(bytes, at) {
+        Drawn::Number(value, next) => {
+            show::number(value);
+            show::text(b", next ");
+            show::count(next);
+        }
+        Drawn::Refused(why) => {
+            show::refusal(why);
+        }
+    }
+    show::text(b"\n");
+}
+
+// A number's length, and a buffer of seven bytes after it is written at a position.
+fn write(value: u32, at: usize) {
+    show::text(b"write ");
+    show::number(value);
+    show::text(b" at ");
+    show::count(at);
+    show::text(b": length ");
+    show::count(number::number_length(value));
+    show::text(b", ");
+    let mut buffer = [0xEEu8; 7];
+    match number::write_number(&mut buffer, at, value) {
+        Written::Bytes(count) => {
+            show::count(count);
+            show::text(b" bytes,");
+        }
+        Written::Refused(why) => {
+            show::refusal(why);
+            show::text(b",");
+        }
+    }
+    show::bytes(&buffer);
+    show::text(b"\n");
+}
+
+fn reads() {
+    read(b"\x00", 0);
+    read(b"\x01", 0);
+    read(b"\x7f", 0);
+    read(b"\x80\x01", 0);
+    read(b"\xff\x7f", 0);
+    read(b"\x80\x80\x01", 0);
+    read(b"\xff\xff\x7f", 0);
+    read(b"\x80\x80\x80\x01", 0);
+    read(b"\xff\xff\xff\x7f", 0);
+    read(b"\x80\x80\x80\x80\x01", 0);
+    read(b"\xff\xff\xff\xff\x0f", 0);
+}
+
+fn refusals() {
+    read(b"", 0);
+    read(b"\x80", 0);
+    read(b"\x80\x80\x80\x80", 0);
+    read(b"\x80\x00", 0);
+    read(b"\x80\x80\x00", 0);
+    read(b"\x80\x80\x80\x00", 0);
+    read(b"\x80\x80\x80\x80\x00", 0);
+    read(b"\xff\xff\xff\xff\x10", 0);
+    read(b"\xff\xff\xff\xff\x90", 0);
+    read(b"\xff\xff\xff\xff\x8f\x00", 0);
+}
+
+fn places() {
+    read(b"\x07\x80\x01\x05", 1);
+    read(b"\x07\x80\x01\x05", 3);
+    read(b"\x07\x80\x01\x05", 4);
+    read(b"\x07\x80\x01\x05", 18446744073709551615);
+}
+
+fn writes() {
+    write(0, 0);
+    write(127, 0);
+    write(128, 0);
+    write(16383, 1);
+    write(16384, 1);
+    write(2097151, 1);
+    write(2097152, 1);
+    write(268435455, 3);
+    write(268435456, 2);
+    write(4294967295, 2);
+    write(4294967295, 3);
+    write(128, 5);
+    write(128, 6);
+    write(0, 6);
+    write(0, 7);
+    write(0, 18446744073709551615);
+}
+
+pub fn all() {
+    reads();
+    refusals();
+    places();
+    writes();
+}

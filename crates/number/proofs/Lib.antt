@@ -1,0 +1,4 @@
+pub mod Groups
+pub mod Laws
+mod Reading
+mod Writing

@@ -1,0 +1,68 @@
+-- `number::number_at` meets its contract: a first byte that is the only one, or the later groups above it.
+use mathlib.Core.Path.{_≡_, ap, sym, _∙_}
+use mathlib.Core.Bool.{true, false}
+use Prim.Native.Nat.{_+_, _-_, _%_, _<_, _≤_}
+use native.Mathlib.Omega.{arith}
+use lib.ListN.{length, getD}
+use borrow.Author.Needs.{needs}
+use denote.Ref.{now}
+use Rattle.number.specs.Number.{numberAt, followed, above, groupsAt}
+use Rattle.number.proofs.Groups.{short, last, more, last-only}
+use Rattle.number.proofs.number_at.Statement.{statement}
+use Rattle.number.proofs.number_at.Tie as tie
+
+returns : tie.Need-returns
+unfolding numberAt
+returns c = sym (short _ _ 4 true (c .if1 .taken))
+
+shared-slice-read-first : tie.Need-shared-slice-read-first
+shared-slice-read-first c = search needs
+
+cast-t9 : tie.Need-cast-t9
+cast-t9 c = search needs
+
+add-t10 : tie.Need-add-t10
+add-t10 c = search needs
+
+returns-2 : tie.Need-returns-2
+unfolding numberAt
+returns-2 c =
+    let a = c .before .before .before .before .args in
+    sym (last (now (a .bytes)) (a .at) 3 true (search needs) (c .if2 .taken) ∙ last-only _ _)
+
+add-later-groups : tie.Need-add-later-groups
+add-later-groups c = search needs
+
+-- the first byte's group
+group : (c : tie.Else2) → getD (now (c .before .before .before .before .args .bytes)) (c .before .before .before .before .args .at) 0 - 128 < 128
+group c = omega (arith, c .before .shared-slice-known2 .given (c .before .before .before .before .args .at))
+
+cast-later-groups : tie.Need-cast-later-groups
+cast-later-groups c = omega (arith, group c)
+
+later-groups-requires : tie.Need-later-groups-requires
+later-groups-requires c κs = group c
+
+returns-3 : tie.Need-returns-3
+unfolding numberAt followed
+returns-3 c =
+    let a = c .before .before .before .before .before .args in
+    let b = getD (now (a .bytes)) (a .at) 0 in
+    let low : b - 128 ≡ b % 128 = omega (arith, group (c .before)) in
+    c .later-groups .ensures
+    ∙ ap (λ v. above v 128 (groupsAt 3 false (now (a .bytes)) (a .at + 1))) low
+    ∙ sym (more (now (a .bytes)) (a .at) 3 true (omega arith) (c .before .if2 .left))
+
+pub number-at-spec : {M : Type 1} → statement M
+number-at-spec =
+    tie.close
+    (tie.spec
+    returns
+    shared-slice-read-first
+    cast-t9
+    add-t10
+    returns-2
+    add-later-groups
+    cast-later-groups
+    later-groups-requires
+    returns-3)

@@ -1,0 +1,11 @@
+-- What a call answers: what it found, or the number of its refusal in document 01.
+use Prim.Native.Nat.{ℕ}
+
+pub data Answer (A : Type 0) : Type 0 where
+  answer : A → Answer A
+  refused : ℕ → Answer A
+
+-- The first refusal met counts: a refusal ends what follows, and an answer is handed on to it.
+abbrev pub then : {A B : Type 0} → Answer A → (A → Answer B) → Answer B
+then (answer a) next = next a
+then (refused n) next = refused n

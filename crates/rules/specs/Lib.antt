@@ -1,0 +1,4 @@
+pub mod Limits
+pub mod Answers
+pub mod Refusals
+pub mod Buffers
