@@ -1,9 +1,10 @@
 -- Laws of writing into a buffer: all of the bytes or none, and one run of bytes after another.
-use mathlib.Core.Path.{_≡_, sym}
-use mathlib.Core.List.{List}
-use Prim.Native.Nat.{ℕ, _+_, _<_, _≤_}
-use lib.ListN.{length}
-use lib.Seq.{sets, sets-eq}
+use mathlib.Core.Path.{_≡_, ap, sym, _∙_}
+use mathlib.Core.List.{List, [], _∷_, _++_}
+use Prim.Native.Nat.{ℕ, suc, _+_, _<_, _≤_}
+use native.Mathlib.Omega.{arith}
+use lib.ListN.{length, set, length-append}
+use lib.Seq.{sets, sets-eq, length-sets}
 use borrow.Author.Tests.{le-leb, lt-leb}
 use Rattle.rules.specs.Answers.{Answer, answer, refused}
 use Rattle.rules.specs.Buffers.{room, written, after}
@@ -22,3 +23,18 @@ module _ (buffer : List ℕ) (at : ℕ) (bytes : List ℕ) where
   pub kept : length buffer < at + length bytes → (refused 30 ≡ written buffer at bytes) × (buffer ≡ after buffer at bytes)
   unfolding written after room
   kept short = (rw (lt-leb _ _ short), rw (lt-leb _ _ short))
+
+sets-sets : (a b s : List ℕ) (at : ℕ) → sets (sets s at a) (at + length a) b ≡ sets s at (a ++ b)
+sets-sets [] b s at = let e : at + 0 ≡ at = omega arith in ap (λ (i : ℕ). sets s i b) e
+sets-sets (x ∷ a) b s at =
+    let e : at + suc (length a) ≡ suc at + length a = omega arith in
+    ap (λ (i : ℕ). sets (sets (set s at x) (suc at) a) i b) e ∙ sets-sets a b (set s at x) (suc at)
+
+-- two runs of bytes, written one after the other, are one run
+pub after-after : (buffer : List ℕ) (at : ℕ) (a b : List ℕ) → at + length (a ++ b) ≤ length buffer
+    → after (after buffer at a) (at + length a) b ≡ after buffer at (a ++ b)
+after-after buffer at a b h =
+    let n = length-append a b in
+    let l = length-sets buffer at a in
+    rw (after-all buffer at a (omega arith), after-all (sets buffer at a) (at + length a) b (omega arith), after-all buffer at (a ++ b) h)
+    (sets-sets a b buffer at)

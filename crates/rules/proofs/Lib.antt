@@ -1,3 +1,4 @@
+pub mod Bools
 pub mod Cases
 pub mod Answers
 pub mod Buffers

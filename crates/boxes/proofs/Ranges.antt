@@ -1,0 +1,60 @@
+-- The cases of the definitions, with a difference in the place of each sum, which may not fit.
+use mathlib.Core.Path.{_≡_, refl, sym, _∙_}
+use mathlib.Core.Bool.{Bool, true, false, _||_}
+use Prim.Native.Nat.{ℕ, _+_, _-_, _≤_, _<_}
+use native.Mathlib.Omega.{arith}
+use lib.Dec.{leb}
+use borrow.Author.Tests.{le-leb, lt-leb, leb-true, leb-false, lt-ltb, le-ltb}
+use Rattle.boxes.specs.Boxes.{within, apart, boxOf, nextChild}
+use Rattle.boxes.specs.declared.Box.{Box}
+use Rattle.boxes.specs.declared.Cut.{Cut}
+use Rattle.boxes.specs.declared.Cut.the-variants.{Parts, None}
+
+-- two tests of order that say the same
+pub le-same : {a b c d : ℕ} → (a ≤ b → c ≤ d) → (c ≤ d → a ≤ b) → leb a b ≡ leb c d
+le-same {a} {b} {c} {d} f g = go (leb a b) refl (leb c d) refl
+  where
+    go : (s : Bool) → leb a b ≡ s → (t : Bool) → leb c d ≡ t → s ≡ t
+    go true e true h = refl
+    go true e false h = sym (le-leb c d (f (leb-true a b e))) ∙ h
+    go false e true h = sym (sym (le-leb a b (g (leb-true c d h))) ∙ e)
+    go false e false h = refl
+
+module _ (a q b p : ℕ) where
+  pub apart-up : a ≤ b → leb q (b - a) ≡ apart a q b p
+  unfolding apart
+  apart-up h = rw (le-leb _ _ h) (le-same {a = q} {b = b - a} {c = a + q} {d = b} (λ k. omega arith) (λ k. omega arith))
+
+  pub apart-down : b < a → leb p (a - b) ≡ apart a q b p
+  unfolding apart
+  apart-down h = rw (lt-leb _ _ h) (le-same {a = p} {b = a - b} {c = b + p} {d = a} (λ k. omega arith) (λ k. omega arith))
+
+  pub within-in : a ≤ b → b - a ≤ q → leb p (q - (b - a)) ≡ within a q b p
+  unfolding within
+  within-in h k = rw (le-leb _ _ h) (le-same {a = p} {b = q - (b - a)} {c = b + p} {d = a + q} (λ m. omega arith) (λ m. omega arith))
+
+  pub within-past : a ≤ b → q < b - a → false ≡ within a q b p
+  unfolding within
+  within-past h k = rw (le-leb _ _ h, lt-leb (b + p) (a + q) (omega arith))
+
+  pub within-before : b < a → false ≡ within a q b p
+  unfolding within
+  within-before h = rw (lt-leb _ _ h)
+
+module _ (b : Box) (q : ℕ) where
+  pub too-small : b .quota < q → None ≡ nextChild b q
+  unfolding nextChild
+  too-small h = rw (lt-ltb _ _ h)
+
+  pub past-l : q ≤ b .quota → 18446744073709551615 < b .l .0 + q → None ≡ nextChild b q
+  unfolding nextChild
+  past-l h k = rw (le-ltb _ _ h, lt-ltb _ _ k)
+
+  pub past-r : q ≤ b .quota → b .l .0 + q ≤ 18446744073709551615 → 18446744073709551615 < b .r .0 + (b .quota - q) → None ≡ nextChild b q
+  unfolding nextChild
+  past-r h k m = rw (le-ltb _ _ h, le-ltb _ _ k, lt-ltb _ _ m)
+
+  pub parts : q ≤ b .quota → b .l .0 + q ≤ 18446744073709551615 → b .r .0 + (b .quota - q) ≤ 18446744073709551615
+      → Parts (boxOf (b .l .0) (b .r .0 + (b .quota - q)) q) (boxOf (b .l .0 + q) (b .r .0) (b .quota - q)) ≡ nextChild b q
+  unfolding nextChild
+  parts h k m = rw (le-ltb _ _ h, le-ltb _ _ k, le-ltb _ _ m)

@@ -1,0 +1,54 @@
+-- The check of the columns (document 01, "Where each check is made"): 10, then 11 over all rows, 12 over all pairs, 13 over all pairs.
+use Prim.Native.Nat.{ℕ, _+_, _-_}
+use mathlib.Core.Bool.{Bool, true, false, cond, not, _&&_, _||_}
+use mathlib.Core.List.{List, [], _∷_}
+use lib.Dec.{eqb, ltb}
+use lib.ListN.{length}
+use Rattle.rules.specs.Answers.{Answer, answer, refused}
+use Rattle.rules.specs.Limits.{greatest, mostRows}
+use Rattle.boxes.specs.Boxes.{apart}
+use Rattle.table.specs.Columns.{Row, Columns, rows}
+
+-- the test holds of some row; of some row and one below it
+unfoldable pub someRow : (Row → Bool) → List Row → Bool
+someRow p [] = false
+someRow p (w ∷ t) = p w || someRow p t
+
+unfoldable pub somePair : (Row → Row → Bool) → List Row → Bool
+somePair p [] = false
+somePair p (w ∷ t) = someRow (p w) t || somePair p t
+
+-- 10: lengths differ or not 1 to 256
+unfoldable pub lengthsBad : Columns → Bool
+lengthsBad c =
+    not (eqb (length (c .l)) (length (c .id)) && (eqb (length (c .r)) (length (c .id)) && eqb (length (c .q)) (length (c .id))))
+    || (eqb (length (c .id)) 0 || ltb mostRows (length (c .id)))
+
+-- 10: count 0 or above length
+unfoldable pub countBad : Columns → ℕ → Bool
+countBad c count = eqb count 0 || ltb (length (c .id)) count
+
+-- 11: a value 0, or a range past the greatest number
+unfoldable pub valueBad : Row → Bool
+valueBad w =
+    eqb (w .id) 0
+    || (eqb (w .l) 0
+    || (eqb (w .r) 0
+    || (eqb (w .q) 0 || (ltb greatest (w .l + w .q - 1) || ltb greatest (w .r + w .q - 1)))))
+
+-- 12: two equal ids
+unfoldable pub sameId : Row → Row → Bool
+sameId w v = eqb (w .id) (v .id)
+
+-- 13: ranges of two rows meet in l or in r
+unfoldable pub rangesMeet : Row → Row → Bool
+rangesMeet w v = not (apart (w .l) (w .q) (v .l) (v .q)) || not (apart (w .r) (w .q) (v .r) (v .q))
+
+-- rows that pass 11, 12 and 13, in that order
+unfoldable pub soundRows : List Row → Answer (List Row)
+soundRows t =
+    cond (someRow valueBad t) (refused 11) (cond (somePair sameId t) (refused 12) (cond (somePair rangesMeet t) (refused 13) (answer t)))
+
+-- the rows in use, once the columns have passed the check
+unfoldable pub checked : Columns → ℕ → Answer (List Row)
+checked c count = cond (lengthsBad c || countBad c count) (refused 10) (soundRows (rows c count))

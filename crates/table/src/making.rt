@@ -1,0 +1,37 @@
+// A fresh table: one group that has the whole quota.
+ghost use mathlib.Core.Path.{_≡_};
+ghost use Rattle.table.specs.Columns.{columns, counted, afterwards};
+ghost use Rattle.table.specs.Fresh.{freshRows};
+ghost use Rattle.table.specs.Says.{countedSays};
+
+use crate::Counted;
+use crate::checking::lengths_bad;
+use rules::Refusal;
+
+// Writes row 0: the group with l = 1, r = 1 and the quota. 10 for lengths, then 11 for id or quota 0.
+pub fn fresh(
+    id: &mut [u32],
+    l: &mut [u32],
+    r: &mut [u32],
+    q: &mut [u32],
+    group: u32,
+    quota: u32,
+) -> Counted
+    ensures { λ t. ⌜ countedSays t ≡ counted (freshRows (columns (now (id .entry)) (now (l .entry)) (now (r .entry)) (now (q .entry))) group quota) ⌝ }
+    ensures { λ t. ⌜ columns (now (id .exit)) (now (l .exit)) (now (r .exit)) (now (q .exit)) ≡ afterwards (freshRows (columns (now (id .entry)) (now (l .entry)) (now (r .entry)) (now (q .entry))) group quota) (columns (now (id .entry)) (now (l .entry)) (now (r .entry)) (now (q .entry))) ⌝ }
+{
+    if lengths_bad(&*id, &*l, &*r, &*q) {
+        return Counted::Refused(Refusal::Columns);
+    }
+    if group == 0 {
+        return Counted::Refused(Refusal::RowValue);
+    }
+    if quota == 0 {
+        return Counted::Refused(Refusal::RowValue);
+    }
+    id[0] = group;
+    l[0] = 1;
+    r[0] = 1;
+    q[0] = quota;
+    Counted::Count(1)
+}
