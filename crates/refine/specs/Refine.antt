@@ -1,0 +1,55 @@
+-- Refine (document 01, "Requests"): the table's rows after an accepted request.
+use mathlib.Core.Bool.{cond}
+use mathlib.Core.List.{List, [], _∷_, _++_, map}
+use Prim.Native.Nat.{ℕ, _+_}
+use lib.Dec.{eqb}
+use lib.ListN.{length}
+use Rattle.rules.specs.Answers.{Answer, answer, then}
+use Rattle.request.specs.Entries.{Entry, entry, pick, quotaOf, before}
+use Rattle.request.specs.Request.{Request, entries, leftOf, rightOf}
+use Rattle.request.specs.Reading.{requestOf}
+use Rattle.request.specs.Acceptance.{accepted}
+use Rattle.table.specs.Columns.{Row, Columns}
+use Rattle.table.specs.Check.{checked}
+
+-- the groups of some rows: ids with quotas
+abbrev pub groupsOf : List Row → List Entry
+groupsOf t = map (λ w. entry (w .id) (w .q)) t
+
+-- the l and the r of the group x (0 where it is not there)
+abbrev pub lOf : ℕ → List Row → ℕ
+lOf x [] = 0
+lOf x (w ∷ t) = pick (eqb x (w .id)) (w .l) (lOf x t)
+
+abbrev pub rOf : ℕ → List Row → ℕ
+rOf x [] = 0
+rOf x (w ∷ t) = pick (eqb x (w .id)) (w .r) (rOf x t)
+
+-- the row of an entry: new l = old l of the exploded group + quotas before the entry in L; new r likewise with R
+abbrev pub rowFor : Request → (l r : ℕ) → Entry → Row
+rowFor q l r e = record { id = e .id; l = l + before (e .id) (leftOf q); r = r + before (e .id) (rightOf q); q = e .quota }
+
+-- some entries without the id u
+abbrev pub without : ℕ → List Entry → List Entry
+without u [] = []
+without u (e ∷ s) = cond (eqb u (e .id)) (without u s) (e ∷ without u s)
+
+-- the exploded id keeps its row
+abbrev pub keptRows : Request → List Row → List Row
+keptRows q t =
+    map (λ w. cond (eqb (q .exploded) (w .id)) (rowFor q (w .l) (w .r) (entry (q .exploded) (quotaOf (q .exploded) (entries q)))) w) t
+
+-- the other entries take the next rows in the request's order
+abbrev pub newRows : Request → List Row → List Row
+newRows q t = map (rowFor q (lOf (q .exploded) t) (rOf (q .exploded) t)) (without (q .exploded) (entries q))
+
+unfoldable pub refineRows : Request → List Row → List Row
+refineRows q t = keptRows q t ++ newRows q t
+
+-- 10 to 13 in that order, the request from left to right, then 20 to 24
+unfoldable pub refined : Columns → ℕ → List ℕ → Answer (List Row)
+refined c count bytes =
+    then (checked c count) λ t.
+    then (requestOf bytes) λ q.
+    then (accepted (length (c .id)) (groupsOf t) q) λ _.
+    answer (refineRows q t)

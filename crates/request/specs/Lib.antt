@@ -1,0 +1,5 @@
+pub mod Entries
+pub mod Forest
+pub mod Request
+pub mod Reading
+pub mod Acceptance

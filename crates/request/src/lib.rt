@@ -1,0 +1,2 @@
+// Requests (document 01, "Requests"): what their bytes say, the two sequences of a forest, and when a request is accepted.
+// Definitions and laws alone; crate refine has the code.
