@@ -1,1 +1,4 @@
 pub mod Refine
+pub mod Work
+pub mod Corners
+pub mod Says

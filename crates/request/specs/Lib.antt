@@ -3,3 +3,4 @@ pub mod Forest
 pub mod Request
 pub mod Reading
 pub mod Acceptance
+pub mod Numbering

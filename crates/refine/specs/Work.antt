@@ -1,0 +1,81 @@
+-- The work columns of refine: a request's entries in its order, each with its id, its quota, where its subtree ends and its subtree's quota.
+use mathlib.Core.Path.{_≡_}
+use mathlib.Core.Bool.{Bool, true, false, cond}
+use mathlib.Core.List.{List, [], _∷_}
+use Prim.Native.Nat.{ℕ, zero, suc, _+_, _≤_, _<_}
+use lib.Dec.{eqb}
+use lib.ListN.{length, getD}
+use Rattle.rules.specs.Answers.{Answer, answer, refused, then}
+use Rattle.request.specs.Entries.{Entry, entry}
+use Rattle.request.specs.Forest.{Forest, none, tree, Direction, upright, inverted}
+use Rattle.request.specs.Numbering.{whole, size, lefts, rights}
+use Rattle.request.specs.Reading.{TreesRead}
+
+pub record Work : Type 0 where
+  pub ids : List ℕ
+  pub quotas : List ℕ
+  pub ends : List ℕ
+  pub sums : List ℕ
+
+abbrev pub work : List ℕ → List ℕ → List ℕ → List ℕ → Work
+work ids quotas ends sums = record { ids = ids; quotas = quotas; ends = ends; sums = sums }
+
+-- the first entry of a tree: its id, its quota, the index after its subtree, its subtree's quota
+pub record EntryIn (w : Work) (at id quota end sum : ℕ) : Type 0 where
+  pub id-is : getD (w .ids) at 0 ≡ id
+  pub quota-is : getD (w .quotas) at 0 ≡ quota
+  pub end-is : getD (w .ends) at 0 ≡ end
+  pub sum-is : getD (w .sums) at 0 ≡ sum
+
+-- the work columns hold a forest's entries from an index on; each quota is at least 1 and a 32-bit number
+abbrev pub Stored : Work → ℕ → Forest → Type 0
+Stored w at none = Unit {0}
+Stored w at (tree i q c r) =
+    EntryIn w at i q (at + 1 + size c) (q + whole c) × ((1 ≤ q) × (q ≤ 4294967295)) × Stored w (at + 1) c × Stored w (at + 1 + size c) r
+
+-- every work column has room for 256 entries
+pub record Roomy (w : Work) : Type 0 where
+  pub in-ids : length (w .ids) ≡ 256
+  pub in-quotas : length (w .quotas) ≡ 256
+  pub in-ends : length (w .ends) ≡ 256
+  pub in-sums : length (w .sums) ≡ 256
+
+-- two work columns agree below an index
+pub record SameBelow (n : ℕ) (w v : Work) : Type 0 where
+  pub same-ids : (k : ℕ) → k < n → getD (v .ids) k 0 ≡ getD (w .ids) k 0
+  pub same-quotas : (k : ℕ) → k < n → getD (v .quotas) k 0 ≡ getD (w .quotas) k 0
+  pub same-ends : (k : ℕ) → k < n → getD (v .ends) k 0 ≡ getD (w .ends) k 0
+  pub same-sums : (k : ℕ) → k < n → getD (v .sums) k 0 ≡ getD (w .sums) k 0
+
+-- where a walk over child counts came to: the next position, the next entry and the subtrees' quota
+pub record Reached : Type 0 where
+  pub next : ℕ
+  pub used : ℕ
+  pub quota : ℕ
+
+abbrev pub reached : Answer TreesRead → Answer Reached
+reached found = then found λ t. answer (record { next = t .next; used = t .used; quota = whole (t .trees) })
+
+-- trees that were read stand in the work columns from the first free entry on, and entries before them stay
+abbrev pub Walked : Answer TreesRead → ℕ → Work → Work → Type 0
+Walked (answer t) used w v = Stored v used (t .trees) × SameBelow used w v
+Walked (refused n) used w v = Unit {0}
+
+abbrev pub directionBy : Bool → Direction
+directionBy true = upright
+directionBy false = inverted
+
+-- the numbering of a forest that stands in the work columns, in a box of the forest's quota
+pub record Boxed (w : Work) (from to l r quota : ℕ) (ls rs : List ℕ) (t : Forest) : Type 0 where
+  pub stored : Stored w from t
+  pub ends-at : to ≡ from + size t
+  pub fits : whole t ≡ quota
+  pub l-end : l + quota ≤ 4294967296
+  pub r-end : r + quota ≤ 4294967296
+  pub l-part : length ls ≡ size t
+  pub r-part : length rs ≡ size t
+
+-- the entries of the work columns from an index on
+abbrev pub listed : List ℕ → List ℕ → ℕ → ℕ → List Entry
+listed ids quotas at zero = []
+listed ids quotas at (suc n) = entry (getD ids at 0) (getD quotas at 0) ∷ listed ids quotas (suc at) n

@@ -1,0 +1,19 @@
+// Refine: a group is exploded into the entries of a request.
+mod numbering;
+mod reading;
+
+use rules::Refusal;
+
+// An entry as it is read.
+enum Taken {
+    // Id, quota, number of children, and the position after them.
+    Entry(u32, u32, u32, usize),
+    Refused(Refusal),
+}
+
+// Where a walk over child counts came to.
+enum Walk {
+    // The next position, the next entry, and the subtrees' quota.
+    Reach(usize, usize, u64),
+    Refused(Refusal),
+}

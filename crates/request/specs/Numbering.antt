@@ -1,0 +1,39 @@
+-- The numbers of a forest's entries in the request's order, from a base b, as a walk over the trees gives them out.
+use mathlib.Core.List.{List, [], _∷_, _++_}
+use Prim.Native.Nat.{ℕ, suc, _+_}
+use Rattle.request.specs.Forest.{Forest, none, tree, Direction, upright, inverted}
+
+-- all the quotas of the trees; how many entries they have
+abbrev pub whole : Forest → ℕ
+whole none = 0
+whole (tree i q c r) = q + (whole c + whole r)
+
+abbrev pub size : Forest → ℕ
+size none = 0
+size (tree i q c r) = suc (size c + size r)
+
+-- a parent before its children, trees left to right; right to left
+abbrev pub upL : ℕ → Forest → List ℕ
+upL b none = []
+upL b (tree i q c r) = b ∷ upL (b + q) c ++ upL (b + q + whole c) r
+
+abbrev pub upR : ℕ → Forest → List ℕ
+upR b none = []
+upR b (tree i q c r) = (b + whole r) ∷ upR (b + whole r + q) c ++ upR b r
+
+-- a parent after its children, trees left to right; right to left
+abbrev pub downL : ℕ → Forest → List ℕ
+downL b none = []
+downL b (tree i q c r) = (b + whole c) ∷ downL b c ++ downL (b + whole c + q) r
+
+abbrev pub downR : ℕ → Forest → List ℕ
+downR b none = []
+downR b (tree i q c r) = (b + whole r + whole c) ∷ downR (b + whole r) c ++ downR b r
+
+abbrev pub lefts : Direction → ℕ → Forest → List ℕ
+lefts upright b t = upL b t
+lefts inverted b t = downL b t
+
+abbrev pub rights : Direction → ℕ → Forest → List ℕ
+rights upright b t = upR b t
+rights inverted b t = downR b t
