@@ -1,4 +1,5 @@
 pub mod Refine
 pub mod Work
 pub mod Corners
+pub mod Placing
 pub mod Says

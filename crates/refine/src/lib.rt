@@ -1,5 +1,6 @@
 // Refine: a group is exploded into the entries of a request.
 mod numbering;
+mod placing;
 mod reading;
 
 use rules::Refusal;

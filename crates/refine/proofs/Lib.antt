@@ -1,0 +1,2 @@
+pub mod NumberingLaws
+pub mod PlacingLaws
