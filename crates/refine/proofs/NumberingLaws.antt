@@ -139,8 +139,7 @@ module _ {w : Work} {up : Bool} {from to : ℕ} {ls rs : List ℕ} {p bl br b : 
   pub done : Numbers w up from to ls rs p bl br b l r → to ≤ p → (l ≡ ls) × (r ≡ rs)
   done n h =
       let z = size-zero (n .trees) (let e = n .ends-at in omega arith) in
-      let k : p - from ≡ to - from = let e = n .ends-at in omega arith in
-      (
+      let k : p - from ≡ to - from = let e = n .ends-at in omega arith in (
         sym (append-nil l) ∙ sym (ap₂ (λ x y. x ++ lefts (directionBy up) bl y) (ap (λ m. take m l) k ∙ take-all (to - from) l (let e = n .l-length in omega arith)) z ∙ lefts-none up l) ∙ n .l-whole,
         sym (append-nil r) ∙ sym (ap₂ (λ x y. x ++ rights (directionBy up) br y) (ap (λ m. take m r) k ∙ take-all (to - from) r (let e = n .r-length in omega arith)) z ∙ rights-none up r) ∙ n .r-whole,
       )
@@ -148,6 +147,7 @@ module _ {w : Work} {up : Bool} {from to : ℕ} {ls rs : List ℕ} {p bl br b : 
       lefts-none : (v : Bool) (s : List ℕ) → s ++ lefts (directionBy v) bl none ≡ s ++ []
       lefts-none true s = refl
       lefts-none false s = refl
+
       rights-none : (v : Bool) (s : List ℕ) → s ++ rights (directionBy v) br none ≡ s ++ []
       rights-none true s = refl
       rights-none false s = refl
@@ -255,19 +255,19 @@ module _ {w : Work} {up : Bool} {from to : ℕ} {ls rs : List ℕ} {p bl br b : 
         l-length = filled-length l ys i k e _ (omega arith) (omega arith) (omega arith) ∙ ll;
         r-length = filled-length r zs i k e _ (omega arith) (omega arith) (omega arith) ∙ rl;
         l-whole =
-        ap (λ s. s ++ lefts (directionBy up) (bl + (getD (w .quotas) p 0 + whole (h .children))) (h .others))
-        (ap (λ m. take m (take k (set l i (cornerOf up child (getD (w .quotas) p 0) .l .0)) ++ (ys ++ drop (e - k) (drop k (set l i (cornerOf up child (getD (w .quotas) p 0) .l .0)))))) (sym ee)
-        ∙ filled l ys i k e _ ek (omega arith) (omega arith) (omega arith))
-        ∙ append-assoc (take i l) _ _
-        ∙ rw (ey, ec, ei) (ap (λ s. take (p - from) l ++ s) (sym (lefts-tree (h .entry) (getD (w .quotas) p 0) (h .children) (h .others) bl br b f up)))
-        ∙ h .l-whole;
+            ap (λ s. s ++ lefts (directionBy up) (bl + (getD (w .quotas) p 0 + whole (h .children))) (h .others))
+            (ap (λ m. take m (take k (set l i (cornerOf up child (getD (w .quotas) p 0) .l .0)) ++ (ys ++ drop (e - k) (drop k (set l i (cornerOf up child (getD (w .quotas) p 0) .l .0)))))) (sym ee)
+            ∙ filled l ys i k e _ ek (omega arith) (omega arith) (omega arith))
+            ∙ append-assoc (take i l) _ _
+            ∙ rw (ey, ec, ei) (ap (λ s. take (p - from) l ++ s) (sym (lefts-tree (h .entry) (getD (w .quotas) p 0) (h .children) (h .others) bl br b f up)))
+            ∙ h .l-whole;
         r-whole =
-        ap (λ s. s ++ rights (directionBy up) br (h .others))
-        (ap (λ m. take m (take k (set r i (cornerOf up child (getD (w .quotas) p 0) .r .0)) ++ (zs ++ drop (e - k) (drop k (set r i (cornerOf up child (getD (w .quotas) p 0) .r .0)))))) (sym ee)
-        ∙ filled r zs i k e _ ek (omega arith) (omega arith) (omega arith))
-        ∙ append-assoc (take i r) _ _
-        ∙ rw (ez, ec, ei) (ap (λ s. take (p - from) r ++ s) (sym (rights-tree (h .entry) (getD (w .quotas) p 0) (h .children) (h .others) bl br b f up)))
-        ∙ h .r-whole;
+            ap (λ s. s ++ rights (directionBy up) br (h .others))
+            (ap (λ m. take m (take k (set r i (cornerOf up child (getD (w .quotas) p 0) .r .0)) ++ (zs ++ drop (e - k) (drop k (set r i (cornerOf up child (getD (w .quotas) p 0) .r .0)))))) (sym ee)
+            ∙ filled r zs i k e _ ek (omega arith) (omega arith) (omega arith))
+            ∙ append-assoc (take i r) _ _
+            ∙ rw (ez, ec, ei) (ap (λ s. take (p - from) r ++ s) (sym (rights-tree (h .entry) (getD (w .quotas) p 0) (h .children) (h .others) bl br b f up)))
+            ∙ h .r-whole;
       }
 
   pub moves : (i k e end : ℕ) (ys zs : List ℕ) (child rest place : Box) → i ≡ p - from → k ≡ i + 1 → e ≡ end - from → end ≡ p + 1 + size (h .children)

@@ -1,4 +1,5 @@
 pub mod Refine
+pub mod Theorems
 pub mod Work
 pub mod Corners
 pub mod Placing

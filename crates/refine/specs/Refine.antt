@@ -46,10 +46,10 @@ newRows q t = map (rowFor q (lOf (q .exploded) t) (rOf (q .exploded) t)) (withou
 unfoldable pub refineRows : Request → List Row → List Row
 refineRows q t = keptRows q t ++ newRows q t
 
+-- the rows after a request that was read: 20 to 24, or the new rows
+unfoldable pub explodedRows : ℕ → List Row → Request → Answer (List Row)
+explodedRows room t q = then (accepted room (groupsOf t) q) λ _. answer (refineRows q t)
+
 -- 10 to 13 in that order, the request from left to right, then 20 to 24
 unfoldable pub refined : Columns → ℕ → List ℕ → Answer (List Row)
-refined c count bytes =
-    then (checked c count) λ t.
-    then (requestOf bytes) λ q.
-    then (accepted (length (c .id)) (groupsOf t) q) λ _.
-    answer (refineRows q t)
+refined c count bytes = then (checked c count) λ t. then (requestOf bytes) λ q. explodedRows (length (c .id)) t q

@@ -10,6 +10,7 @@ use Rattle.request.specs.Entries.{Entry, entry}
 use Rattle.request.specs.Forest.{Forest, none, tree, Direction, upright, inverted}
 use Rattle.request.specs.Numbering.{whole, size, lefts, rights}
 use Rattle.request.specs.Reading.{TreesRead}
+use Rattle.request.specs.Request.{Request}
 
 pub record Work : Type 0 where
   pub ids : List ℕ
@@ -79,3 +80,13 @@ pub record Boxed (w : Work) (from to l r quota : ℕ) (ls rs : List ℕ) (t : Fo
 abbrev pub listed : List ℕ → List ℕ → ℕ → ℕ → List Entry
 listed ids quotas at zero = []
 listed ids quotas at (suc n) = entry (getD ids at 0) (getD quotas at 0) ∷ listed ids quotas (suc at) n
+
+-- the work columns hold a request that was read
+pub record Told (w : Work) (exploded : ℕ) (up : Bool) (entries quota : ℕ) (q : Request) : Type 0 where
+  pub roomy : Roomy w
+  pub stored : Stored w 0 (q .trees)
+  pub exploded-is : exploded ≡ q .exploded
+  pub direction-is : directionBy up ≡ q .direction
+  pub entries-are : entries ≡ size (q .trees)
+  pub entries-most : entries ≤ 256
+  pub quota-is : quota ≡ whole (q .trees)

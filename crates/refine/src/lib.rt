@@ -2,6 +2,7 @@
 mod numbering;
 mod placing;
 mod reading;
+mod refining;
 
 use rules::Refusal;
 

@@ -7,7 +7,6 @@ ghost use Rattle.request.specs.Forest.{Forest};
 ghost use Rattle.request.specs.Numbering.{lefts, rights};
 ghost use Rattle.refine.specs.Work.{work, Boxed, directionBy};
 ghost use Rattle.refine.specs.Corners.{cornerOf, innerOf};
-
 use boxes::Box;
 use boxes::Cut;
 use boxes::LValue;

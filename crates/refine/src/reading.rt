@@ -5,7 +5,6 @@ ghost use Rattle.number.specs.Says.{drawnSays};
 ghost use Rattle.request.specs.Reading.{positiveAt, entryAt, treesAt};
 ghost use Rattle.refine.specs.Says.{takenSays, walkSays};
 ghost use Rattle.refine.specs.Work.{work, Roomy, Walked, reached};
-
 use crate::Taken;
 use crate::Walk;
 use number::Drawn;

@@ -1,4 +1,4 @@
--- The numbers of a forest's entries in the request's order, from a base b, as a walk over the trees gives them out.
+-- The numbers of a forest's entries, in the request's order, as a walk over the trees finds them: b is where the trees' part begins.
 use mathlib.Core.List.{List, [], _∷_, _++_}
 use Prim.Native.Nat.{ℕ, suc, _+_}
 use Rattle.request.specs.Forest.{Forest, none, tree, Direction, upright, inverted}
@@ -12,16 +12,17 @@ abbrev pub size : Forest → ℕ
 size none = 0
 size (tree i q c r) = suc (size c + size r)
 
--- a parent before its children, trees left to right; right to left
+-- upright, a parent stands at the low corner of its own part; its children and then the trees to its right take higher l
 abbrev pub upL : ℕ → Forest → List ℕ
 upL b none = []
 upL b (tree i q c r) = b ∷ upL (b + q) c ++ upL (b + q + whole c) r
 
+-- the trees to its right take lower r
 abbrev pub upR : ℕ → Forest → List ℕ
 upR b none = []
 upR b (tree i q c r) = (b + whole r) ∷ upR (b + whole r + q) c ++ upR b r
 
--- a parent after its children, trees left to right; right to left
+-- inverted, a parent stands at the high corner of its own part
 abbrev pub downL : ℕ → Forest → List ℕ
 downL b none = []
 downL b (tree i q c r) = (b + whole c) ∷ downL b c ++ downL (b + whole c + q) r

@@ -5,7 +5,6 @@ ghost use Rattle.table.specs.Columns.{columns, rowAt, rows};
 ghost use Rattle.table.specs.Check.{someRow, somePair, lengthsBad, countBad, valueBad, sameId, rangesMeet, soundRows, checked};
 ghost use Rattle.table.specs.Says.{checkedSays, given};
 ghost use Rattle.table.specs.Held.{Holds};
-
 use crate::Checked;
 use boxes::Box;
 use rules::GREATEST;

@@ -3,7 +3,6 @@ ghost use mathlib.Core.Path.{_≡_};
 ghost use Rattle.table.specs.Columns.{columns, counted, afterwards};
 ghost use Rattle.table.specs.Fresh.{freshRows};
 ghost use Rattle.table.specs.Says.{countedSays};
-
 use crate::Counted;
 use crate::checking::lengths_bad;
 use rules::Refusal;

@@ -9,9 +9,8 @@ ghost use Rattle.table.specs.Order.{orderIn, orderBy, subgroup};
 ghost use Rattle.table.specs.Order.{order as tableOrder};
 ghost use Rattle.table.specs.Found.{FoundAt};
 ghost use Rattle.table.specs.Says.{orderedSays};
-
-use crate::Ordered;
 use crate::Checked;
+use crate::Ordered;
 use crate::checking::check_columns;
 use boxes::LValue;
 use boxes::RValue;
@@ -82,15 +81,7 @@ fn order_in(id: &[u32], l: &[u32], r: &[u32], q: &[u32], count: usize, a: u32, b
 }
 
 // The order of two groups: 10 to 13, then 20 for either id.
-pub fn order(
-    id: &[u32],
-    l: &[u32],
-    r: &[u32],
-    q: &[u32],
-    count: usize,
-    a: u32,
-    b: u32,
-) -> Ordered
+pub fn order(id: &[u32], l: &[u32], r: &[u32], q: &[u32], count: usize, a: u32, b: u32) -> Ordered
     ensures { λ t. ⌜ orderedSays t ≡ tableOrder (columns (now (id .entry)) (now (l .entry)) (now (r .entry)) (now (q .entry))) count a b ⌝ }
 {
     match check_columns(id, l, r, q, count) {

@@ -1,5 +1,5 @@
 -- `refine::numbering::number_trees` meets its contract: a cycle of one, whose measure is the number of entries. The loop's invariant: what is left to number makes the whole.
- 
+
 use mathlib.Core.Path.{_≡_, refl, ap, sym, _∙_, subst}
 use Prim.Native.Nat.{_+_, _-_, _≤_}
 use native.Mathlib.Omega.{arith}
@@ -50,7 +50,6 @@ Inv-loop quotas ends sums from to upright l₀ r₀ p₀ rest₀ l r p rest =
 abbrev μ-loop : lts.MeasureT-loop
 μ-loop quotas ends sums from to upright l₀ r₀ p₀ rest₀ l r p rest = to - p
 
- 
 -- the first tree that is left
 first : (t : ℕ) (c : lts.In-loop (claims t) (here-at t) number-trees.Post Inv-loop μ-loop)
     → let a = c .before .before .before .before .before .before .before .args in
@@ -182,7 +181,7 @@ number-trees-part-number-trees-end-2 t c = let h = first t (c .before .before .b
 number-trees-number-trees-requires : (t : ℕ) → lts.Need-number-trees-requires (claims t) (here-at t) number-trees.Post Inv-loop μ-loop
 number-trees-number-trees-requires t c κs =
     let s = c .before .before .before .before .before .before .before .before .before .before .before .before .before .before .before .before .before .before .before .before in
-    let h = first t (c .before .before .before .before .before .before .before .before .before .before .before .before .before) in let b = h .behind in let e = h .end-is in let a = h .ends-at in 
+    let h = first t (c .before .before .before .before .before .before .before .before .before .before .before .before .before) in let b = h .behind in let e = h .end-is in let a = h .ends-at in
     let nl = h .l-length in
     let nr = h .r-length in
     let pl = part-length (c .before .before .before .before .before .before .before .before .before .before .before .before .before .before .loop .l) (c .before .before .before .before .before .before .before .before .before .before .before .before .before .before .loop .p) (s .args .from) (getD (now (s .args .ends)) (c .before .before .before .before .before .before .before .before .before .before .before .before .before .before .loop .p) 0) (c .before .before .before .before .before .corner .result .l .0) (h .behind) (omega arith) (omega arith) in

@@ -97,11 +97,10 @@ returns-4 c =
     let good = sym (c .before .before .before .lengths-bad .ensures) ∙ c .before .before .if1 .left in
     let f = ne-eqb _ _ (c .before .if2 .left) in
     let g = ne-eqb _ _ (c .if3 .left) in
-    let l = lengths-good _ good in
-    (
+    let l = lengths-good _ good in (
       rw (good, f, g),
       rw (good, f, g)
-      (put-one (columns (now (a .id)) (now (a .l)) (now (a .r)) (now (a .q))) (record { id = a .group; l = 1; r = 1; q = a .quota }) (holds-count l (l .some))),
+          (put-one (columns (now (a .id)) (now (a .l)) (now (a .r)) (now (a .q))) (record { id = a .group; l = 1; r = 1; q = a .quota }) (holds-count l (l .some))),
     )
 
 pub fresh-spec : {M : Type 1} → statement M

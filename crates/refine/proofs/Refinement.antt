@@ -1,0 +1,160 @@
+-- What an accepted request promises of the rows after it.
+use mathlib.Core.Path.{_≡_, sym, _∙_}
+use mathlib.Core.Bool.{true}
+use mathlib.Core.List.{List}
+use mathlib.Core.Logic.{inl, inr, _↔_}
+use Prim.Native.Nat.{ℕ, _+_, _-_, _≤_}
+use native.Mathlib.Omega.{arith}
+use lib.ListN.{length}
+use borrow.Author.Tests.{le-leb}
+use Rattle.rules.specs.Answers.{answer}
+use Rattle.boxes.specs.Boxes.{boxOf, within, contains, disjoint}
+use Rattle.request.specs.Entries.{count, quotaOf, before, Distinct, Positive}
+use Rattle.request.specs.Forest.{Forest, Direction, preL, left, right, treeOrder}
+use Rattle.request.specs.Request.{Request, entries, leftOf, rightOf}
+use Rattle.request.specs.Reading.{requestOf}
+use Rattle.request.specs.Acceptance.{accepted}
+use Rattle.request.proofs.Sums.{Clear, leb-iff, sum-at, own-quotas}
+use Rattle.request.proofs.Trees
+use Rattle.request.proofs.ReadLaws.{request-read}
+use Rattle.request.proofs.Accepting.{request-accepted}
+use Rattle.table.specs.Columns.{Row}
+use Rattle.table.specs.Check.{soundRows}
+use Rattle.table.specs.Order.{subgroup}
+use Rattle.refine.specs.Refine.{groupsOf, lOf, rOf, refineRows}
+use Rattle.refine.specs.Theorems.{EntryIn, OtherIn, qOf, boxIn, subgroupIn, Cut, Promises}
+use Rattle.refine.proofs.Lookup.{rowIn, l-row, r-row, quota-row}
+use Rattle.refine.proofs.Soundness.{Parted, clear-apart, sound-ids, ids-sound}
+use Rattle.refine.proofs.After.{entry-row, distinct-after, groups-after, length-after, length-rows, entry-after}
+use Rattle.refine.proofs.Cutting.{Refining, refines, Inside, entry-inside, entries-apart, entry-once, other-row, sound-after}
+
+-- two comparisons that say the same
+subgroup-iff : (l r k s l′ r′ k′ s′ : ℕ) → l ≤ k ↔ l′ ≤ k′ → r ≤ s ↔ r′ ≤ s′ → subgroup l r k s ≡ subgroup l′ r′ k′ s′
+unfolding subgroup
+subgroup-iff l r k s l′ r′ k′ s′ f g = rw (leb-iff l k l′ k′ (f .0) (f .1), leb-iff r s r′ s′ (g .0) (g .1))
+
+-- Theorem 1 of the paper
+pub tree-order : (d : Direction) (t : Forest) (x y : ℕ) → Positive (preL t) → count x (preL t) ≡ 1 → count y (preL t) ≡ 1
+    → treeOrder d t x y ≡ subgroup (before x (left d t)) (before x (right d t)) (before y (left d t)) (before y (right d t))
+unfolding subgroup
+tree-order d t x y pos hx hy = Trees.tree-order d t x y pos hx hy
+
+-- a number c in a range compares with a range apart from it as the range does
+in-below : (a q b p c k : ℕ) → a ≤ c → c + k ≤ a + q → 1 ≤ p → Clear a q b p → c ≤ b ↔ a ≤ b
+in-below a q b p c k h j m (inl n) = omega arith
+in-below a q b p c k h j m (inr n) = omega arith
+
+in-above : (a q b p c k : ℕ) → a ≤ c → c + k ≤ a + q → 1 ≤ k → 1 ≤ p → Clear a q b p → b ≤ c ↔ b ≤ a
+in-above a q b p c k h j i m (inl n) = omega arith
+in-above a q b p c k h j i m (inr n) = omega arith
+
+-- by the rows
+by-rows : (t : List Row) (x y : ℕ) → subgroupIn t x y ≡ subgroup (rowIn x t .l) (rowIn x t .r) (rowIn y t .l) (rowIn y t .r)
+by-rows t x y = rw (l-row x t, r-row x t, l-row y t, r-row y t)
+
+box-row : (t : List Row) → Distinct (groupsOf t) → (x : ℕ) → boxIn t x ≡ boxOf (rowIn x t .l) (rowIn x t .r) (rowIn x t .q)
+box-row t d x = rw (l-row x t, r-row x t, quota-row x t (d x))
+
+inside-contains : (v w : Row) → Inside v w → contains (boxOf (v .l) (v .r) (v .q)) (boxOf (w .l) (w .r) (w .q)) ≡ true
+unfolding contains within
+inside-contains v w i = rw (le-leb _ _ (i .l-low), le-leb _ _ (i .l-high), le-leb _ _ (i .r-low), le-leb _ _ (i .r-high))
+
+parted-disjoint : (w v : Row) → 1 ≤ w .q → 1 ≤ v .q → Parted w v → disjoint (boxOf (w .l) (w .r) (w .q)) (boxOf (v .l) (v .r) (v .q)) ≡ true
+unfolding disjoint
+parted-disjoint w v h k p = rw (clear-apart _ _ _ _ h k (p .in-l), clear-apart _ _ _ _ h k (p .in-r))
+
+module _ {room : ℕ} {q : Request} {t : List Row} (h : Refining room q t) where
+  entry-some : (x : ℕ) → EntryIn q x → 1 ≤ rowIn x (refineRows q t) .q
+  entry-some x k = sound-after h .row x (entry-after (refines h) x k) .q-some
+
+  kept : (x : ℕ) → OtherIn q t x → (lOf x (refineRows q t) ≡ lOf x t) × (rOf x (refineRows q t) ≡ rOf x t) × (qOf x (refineRows q t) ≡ qOf x t)
+  kept x o = (
+    rw (l-row x (refineRows q t), other-row h x o) (sym (l-row x t)),
+    rw (r-row x (refineRows q t), other-row h x o) (sym (r-row x t)),
+    rw (quota-row x (refineRows q t) (distinct-after (refines h) x), other-row h x o) (sym (quota-row x t (h .sound .distinct x))),
+  )
+
+  -- the size of an entry's box
+  entry-size : (x : ℕ) → EntryIn q x → qOf x (refineRows q t) ≡ quotaOf x (entries q)
+  entry-size x k = quota-row x (refineRows q t) (distinct-after (refines h) x) ∙ rw (entry-row (refines h) x k)
+
+  entry-numbers : (x : ℕ) → EntryIn q x
+      → (lOf x (refineRows q t) ≡ lOf (q .exploded) t + before x (leftOf q)) × (rOf x (refineRows q t) ≡ rOf (q .exploded) t + before x (rightOf q))
+      × (qOf x (refineRows q t) ≡ quotaOf x (entries q))
+  entry-numbers x k =
+      let e = entry-row (refines h) x k in
+      (l-row x (refineRows q t) ∙ rw (e, l-row (q .exploded) t), r-row x (refineRows q t) ∙ rw (e, r-row (q .exploded) t), entry-size x k)
+
+  pub box-cut : Cut q t (refineRows q t)
+  box-cut = record {
+    inside = λ x k. rw (box-row t (h .sound .distinct) (q .exploded), box-row (refineRows q t) (distinct-after (refines h)) x)
+        (inside-contains _ _ (entry-inside h x k));
+    separate = λ x y n hx hy. rw (box-row (refineRows q t) (distinct-after (refines h)) x, box-row (refineRows q t) (distinct-after (refines h)) y)
+        (parted-disjoint _ _ (entry-some x hx) (entry-some y hy) (entries-apart h x y n hx hy));
+    sizes = sum-at (λ e. qOf (e .id) (refineRows q t)) (λ e. quotaOf (e .id) (entries q)) (entries q) (λ e k. entry-size (e .id) k)
+        ∙ own-quotas (entries q) (h .ok .single) ∙ h .ok .whole;
+  }
+
+  -- Theorem 1: among the entries
+  pub entries-order : (x y : ℕ) → EntryIn q x → EntryIn q y → subgroupIn (refineRows q t) x y ≡ treeOrder (q .direction) (q .trees) x y
+  entries-order x y hx hy =
+      by-rows (refineRows q t) x y
+      ∙ rw (entry-row (refines h) x hx, entry-row (refines h) y hy)
+      (subgroup-iff _ _ _ _ (before x (leftOf q)) (before x (rightOf q)) (before y (leftOf q)) (before y (rightOf q)) (omega arith) (omega arith))
+      ∙ sym (tree-order (q .direction) (q .trees) x y (h .read .positive) (entry-once h x hx) (entry-once h y hy))
+
+  -- Theorem 6: an entry and a group outside the box
+  module _ (x e : ℕ) (o : OtherIn q t x) (k : EntryIn q e) where
+    outside : Parted (rowIn (q .exploded) t) (rowIn x t)
+    outside = h .sound .pair (q .exploded) x (λ e. o .0 (sym e)) (h .ok .known) (o .1)
+
+    pub entry-below : subgroupIn (refineRows q t) e x ≡ subgroupIn t (q .exploded) x
+    entry-below =
+        let i = entry-inside h e k in
+        let p = outside in
+        let m = h .sound .row x (o .1) .q-some in
+        by-rows (refineRows q t) e x ∙ rw (other-row h x o)
+        (subgroup-iff _ _ _ _ (rowIn (q .exploded) t .l) (rowIn (q .exploded) t .r) (rowIn x t .l) (rowIn x t .r)
+        (in-below _ _ _ _ _ _ (i .l-low) (i .l-high) m (p .in-l)) (in-below _ _ _ _ _ _ (i .r-low) (i .r-high) m (p .in-r)))
+        ∙ sym (by-rows t (q .exploded) x)
+
+    pub entry-above : subgroupIn (refineRows q t) x e ≡ subgroupIn t x (q .exploded)
+    entry-above =
+        let i = entry-inside h e k in
+        let p = outside in
+        let m = h .sound .row x (o .1) .q-some in
+        let n = entry-some e k in
+        by-rows (refineRows q t) x e ∙ rw (other-row h x o)
+        (subgroup-iff _ _ _ _ (rowIn x t .l) (rowIn x t .r) (rowIn (q .exploded) t .l) (rowIn (q .exploded) t .r)
+        (in-above _ _ _ _ _ _ (i .l-low) (i .l-high) n m (p .in-l)) (in-above _ _ _ _ _ _ (i .r-low) (i .r-high) n m (p .in-r)))
+        ∙ sym (by-rows t x (q .exploded))
+
+  others-order : (x y : ℕ) → OtherIn q t x → OtherIn q t y → subgroupIn (refineRows q t) x y ≡ subgroupIn t x y
+  others-order x y o p = by-rows (refineRows q t) x y ∙ rw (other-row h x o, other-row h y p) (sym (by-rows t x y))
+
+  pub promised : Promises room q t (refineRows q t)
+  promised =
+      let n = length-after (refines h) in
+      let m : length (refineRows q t) ≤ room = omega (arith, h .ok .fits, length-rows t) in
+      record {
+        refined-sound = ids-sound (refineRows q t) (sound-after h);
+        refined-length = n;
+        refined-fits = m;
+        refined-groups = groups-after (refines h);
+        kept = kept;
+        entry-numbers = entry-numbers;
+        cut = box-cut;
+        entries-order = entries-order;
+        entry-below = entry-below;
+        entry-above = entry-above;
+        others-order = others-order;
+      }
+
+-- sound rows, a request that was read from bytes and is accepted: the promises hold of the rows after it
+pub refining : (room : ℕ) (t : List Row) (bytes : List ℕ) (q : Request) → soundRows t ≡ answer t → requestOf bytes ≡ answer q
+    → accepted room (groupsOf t) q ≡ answer q → Refining room q t
+refining room t bytes q s r a = record { sound = sound-ids t s; read = request-read bytes r; ok = request-accepted room (groupsOf t) q a .0 }
+
+pub promises : (room : ℕ) (t : List Row) (bytes : List ℕ) (q : Request) → soundRows t ≡ answer t → requestOf bytes ≡ answer q
+    → accepted room (groupsOf t) q ≡ answer q → Promises room q t (refineRows q t)
+promises room t bytes q s r a = promised (refining room t bytes q s r a)

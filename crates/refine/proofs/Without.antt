@@ -1,0 +1,71 @@
+-- Sums over entries without an id.
+use mathlib.Core.Path.{_≡_, refl, ap, ap₂, sym, _∙_}
+use mathlib.Core.Bool.{true, false, cond}
+use mathlib.Core.List.{List, [], _∷_}
+use mathlib.Core.Logic.{_≢_}
+use Prim.Native.Nat.{ℕ, _+_}
+use native.Mathlib.Omega.{arith}
+use native.Mathlib.Nat.{zero-add}
+use lib.Dec.{eqb}
+use borrow.Author.Tests.{eqb-true, ne-eqb}
+use Rattle.request.specs.Entries.{Entry, entry, pick, sum, oneAt, quotaAt, count, quotaOf}
+use Rattle.request.proofs.Sums.{quota-none}
+use Rattle.refine.specs.Refine.{without}
+
+-- f, but nothing at the id u
+abbrev pub but : ℕ → (Entry → ℕ) → Entry → ℕ
+but u f e = pick (eqb u (e .id)) 0 (f e)
+
+pub sum-without : (f : Entry → ℕ) (u : ℕ) (s : List Entry) → sum f (without u s) ≡ sum (but u f) s
+sum-without f u [] = refl
+sum-without f u (e ∷ s) =
+    elim (eqb u (e .id)) as (λ b. sum f (cond b (without u s) (e ∷ without u s)) ≡ pick b 0 (f e) + sum (but u f) s)
+    [ true ↦ omega (arith, sum-without f u s) | false ↦ omega (arith, sum-without f u s) ]
+
+pub sum-none : (f : Entry → ℕ) (u : ℕ) (s : List Entry) → count u s ≡ 0 → sum (but u f) s ≡ sum f s
+sum-none f u [] h = refl
+sum-none f u (e ∷ s) h =
+    (elim (eqb u (e .id)) as (λ b. pick b 1 0 + count u s ≡ 0 → pick b 0 (f e) + sum (but u f) s ≡ f e + sum f s)
+    [ true ↦ λ h. absurd (omega arith) | false ↦ λ h. omega (arith, sum-none f u s (omega arith)) ]) h
+
+-- a sum, with u's part apart
+pub sum-split : (f : Entry → ℕ) (u : ℕ) (s : List Entry) → count u s ≡ 1 → sum f s ≡ f (entry u (quotaOf u s)) + sum (but u f) s
+sum-split f u [] h = absurd (omega arith)
+sum-split f u (e ∷ s) h =
+    (elim (eqb u (e .id)) as (λ b. eqb u (e .id) ≡ b → pick b 1 0 + count u s ≡ 1 → f e + sum f s ≡ f (entry u (pick b (e .quota) 0 + quotaOf u s)) + (pick b 0 (f e) + sum (but u f) s)) [
+      | true ↦ λ p h.
+          let z : quotaOf u s ≡ 0 = quota-none u s (omega arith) in
+          let y : e .quota + quotaOf u s ≡ e .quota = omega arith in
+          let v : f (entry u (e .quota + quotaOf u s)) ≡ f e = ap₂ (λ i k. f (entry i k)) (eqb-true u (e .id) p) y in
+          omega (arith, sum-none f u s (omega arith))
+      | false ↦ λ p h. omega (arith, sum-split f u s (omega arith), ap (λ k. f (entry u k)) (zero-add (quotaOf u s)))
+    ]) refl h
+
+-- another id comes as often without u, with the same quota
+module _ (x u : ℕ) (n : x ≢ u) where
+  one-but : (e : Entry) → but u (oneAt x) e ≡ oneAt x e
+  one-but e =
+      (elim (eqb u (e .id)) as (λ b. eqb u (e .id) ≡ b → pick b 0 (oneAt x e) ≡ oneAt x e)
+      [ true ↦ λ p. sym (ap (λ c. pick c 1 0) (ne-eqb x (e .id) (λ k. n (k ∙ sym (eqb-true u (e .id) p))))) | false ↦ λ p. refl ]) refl
+
+  quota-but : (e : Entry) → but u (quotaAt x) e ≡ quotaAt x e
+  quota-but e =
+      (elim (eqb u (e .id)) as (λ b. eqb u (e .id) ≡ b → pick b 0 (quotaAt x e) ≡ quotaAt x e)
+      [ true ↦ λ p. sym (ap (λ c. pick c (e .quota) 0) (ne-eqb x (e .id) (λ k. n (k ∙ sym (eqb-true u (e .id) p))))) | false ↦ λ p. refl ]) refl
+
+sum-same : (f g : Entry → ℕ) → ((e : Entry) → f e ≡ g e) → (s : List Entry) → sum f s ≡ sum g s
+sum-same f g h [] = refl
+sum-same f g h (e ∷ s) = omega (arith, h e, sum-same f g h s)
+
+module _ (x u : ℕ) (s : List Entry) (n : x ≢ u) where
+  pub count-but : sum (but u (oneAt x)) s ≡ count x s
+  count-but = sum-same (but u (oneAt x)) (oneAt x) (one-but x u n) s
+
+  pub quotas-but : sum (but u (quotaAt x)) s ≡ quotaOf x s
+  quotas-but = sum-same (but u (quotaAt x)) (quotaAt x) (quota-but x u n) s
+
+  pub count-without : count x (without u s) ≡ count x s
+  count-without = sum-without (oneAt x) u s ∙ count-but
+
+  pub quota-without : quotaOf x (without u s) ≡ quotaOf x s
+  quota-without = sum-without (quotaAt x) u s ∙ quotas-but

@@ -1,0 +1,63 @@
+-- What an accepted request promises of the rows after it (document 01, "Requests").
+use Prim.Native.Nat.{ℕ, _+_, _-_, _≤_}
+use mathlib.Core.Path.{_≡_}
+use mathlib.Core.Bool.{Bool, true}
+use mathlib.Core.List.{List, _++_}
+use mathlib.Core.Logic.{_≢_}
+use lib.ListN.{length}
+use Rattle.rules.specs.Answers.{answer}
+use Rattle.boxes.specs.Boxes.{boxOf, contains, disjoint}
+use Rattle.boxes.specs.declared.Box.{Box}
+use Rattle.request.specs.Entries.{sum, count, quotaOf, before, Same}
+use Rattle.request.specs.Forest.{treeOrder}
+use Rattle.request.specs.Request.{Request, entries, leftOf, rightOf}
+use Rattle.table.specs.Columns.{Row}
+use Rattle.table.specs.Check.{soundRows}
+use Rattle.table.specs.Order.{subgroup}
+use Rattle.refine.specs.Refine.{groupsOf, lOf, rOf, without}
+
+-- x is one of the entries; one of the groups in some rows
+abbrev pub EntryIn : Request → ℕ → Type 0
+EntryIn q x = 1 ≤ count x (entries q)
+
+abbrev pub GroupIn : List Row → ℕ → Type 0
+GroupIn t x = 1 ≤ count x (groupsOf t)
+
+-- a group that is not exploded
+abbrev pub OtherIn : Request → List Row → ℕ → Type 0
+OtherIn q t x = (x ≢ q .exploded) × GroupIn t x
+
+-- the quota of the group x in some rows; its box; x is a subgroup of y by their numbers
+abbrev pub qOf : ℕ → List Row → ℕ
+qOf x t = quotaOf x (groupsOf t)
+
+abbrev pub boxIn : List Row → ℕ → Box
+boxIn t x = boxOf (lOf x t) (rOf x t) (qOf x t)
+
+abbrev pub subgroupIn : List Row → ℕ → ℕ → Bool
+subgroupIn t x y = subgroup (lOf x t) (rOf x t) (lOf y t) (rOf y t)
+
+-- the box of the exploded group is cut up: each entry's box lies in it, two entries' boxes are disjoint, and their sizes add up to its size
+pub record Cut (q : Request) (t t′ : List Row) : Type 0 where
+  pub inside : (x : ℕ) → EntryIn q x → contains (boxIn t (q .exploded)) (boxIn t′ x) ≡ true
+  pub separate : (x y : ℕ) → x ≢ y → EntryIn q x → EntryIn q y → disjoint (boxIn t′ x) (boxIn t′ y) ≡ true
+  pub sizes : sum (λ e. qOf (e .id) t′) (entries q) ≡ qOf (q .exploded) t
+
+pub record Promises (room : ℕ) (q : Request) (t t′ : List Row) : Type 0 where
+  -- the rows are sound again, and there is room for them
+  pub refined-sound : soundRows t′ ≡ answer t′
+  pub refined-length : length t′ ≡ length t + length (entries q) - 1
+  pub refined-fits : length t′ ≤ room
+  -- the groups are those before without the exploded one, and the entries, with their quotas; the others keep their numbers
+  pub refined-groups : Same (groupsOf t′) (without (q .exploded) (groupsOf t) ++ entries q)
+  pub kept : (x : ℕ) → OtherIn q t x → (lOf x t′ ≡ lOf x t) × (rOf x t′ ≡ rOf x t) × (qOf x t′ ≡ qOf x t)
+  -- an entry's numbers begin where the exploded group's did, after the quotas before it in L and in R
+  pub entry-numbers : (x : ℕ) → EntryIn q x
+      → (lOf x t′ ≡ lOf (q .exploded) t + before x (leftOf q)) × (rOf x t′ ≡ rOf (q .exploded) t + before x (rightOf q)) × (qOf x t′ ≡ quotaOf x (entries q))
+  pub cut : Cut q t t′
+  -- among the entries the order is that of the trees
+  pub entries-order : (x y : ℕ) → EntryIn q x → EntryIn q y → subgroupIn t′ x y ≡ treeOrder (q .direction) (q .trees) x y
+  -- an entry stands to every other group as the exploded group did, and the others stand to each other as they did
+  pub entry-below : (x e : ℕ) → OtherIn q t x → EntryIn q e → subgroupIn t′ e x ≡ subgroupIn t (q .exploded) x
+  pub entry-above : (x e : ℕ) → OtherIn q t x → EntryIn q e → subgroupIn t′ x e ≡ subgroupIn t x (q .exploded)
+  pub others-order : (x y : ℕ) → OtherIn q t x → OtherIn q t y → subgroupIn t′ x y ≡ subgroupIn t x y

@@ -1,0 +1,149 @@
+// Refine: the check, the request, the refusals 20 to 24, and then the rows.
+ghost use mathlib.Core.Path.{_≡_};
+ghost use mathlib.Core.Bool.{not, _&&_, _||_};
+ghost use mathlib.Core.List.{List};
+ghost use Prim.Native.Nat.{ℕ, _+_, _-_, _≤_, _<_};
+ghost use lib.Dec.{eqb, leb};
+ghost use lib.ListN.{length, getD};
+ghost use Rattle.rules.specs.Answers.{answer};
+ghost use Rattle.request.specs.Entries.{count as timesOf};
+ghost use Rattle.request.specs.Entries.{has, someEntry};
+ghost use Rattle.request.specs.Request.{Request};
+ghost use Rattle.table.specs.Columns.{columns, rows, counted, afterwards, put};
+ghost use Rattle.table.specs.Check.{checked};
+ghost use Rattle.table.specs.Says.{countedSays};
+ghost use Rattle.request.specs.Acceptance.{accepted};
+ghost use Rattle.refine.specs.Placing.{PlaceIn};
+ghost use Rattle.refine.specs.Refine.{groupsOf, refineRows, explodedRows, refined};
+ghost use Rattle.refine.specs.Work.{work, listed, Told};
+use crate::numbering::number_trees;
+use crate::placing::place;
+use crate::placing::place_of;
+use crate::placing::times;
+use boxes::Box;
+use rules::Refusal;
+use table::Counted;
+
+// 22, for one entry's id: it isn't the exploded one, and it is in the table or comes twice.
+fn id_taken(id: &[u32], count: usize, ids: &[u32], entries: usize, exploded: u32, x: u32) -> bool
+    requires { ⌜ (count ≤ length (now id)) × (entries ≤ length (now ids)) ⌝ }
+    ensures { λ t. ⌜ ((groups values : List ℕ) → t ≡ (not (eqb x exploded) && (has x (listed (now (id .entry)) groups 0 count) || leb 2 (timesOf x (listed (now (ids .entry)) values 0 entries))))) ⌝ }
+{
+    if x == exploded {
+        return false;
+    }
+    if 1 <= times(id, count, x) {
+        return true;
+    }
+    2 <= times(ids, entries, x)
+}
+
+// 22: another entry's id is in the table or comes twice.
+fn some_id_taken(id: &[u32], count: usize, ids: &[u32], entries: usize, exploded: u32) -> bool
+    requires { ⌜ (count ≤ length (now id)) × (entries ≤ length (now ids)) ⌝ }
+    ensures { λ t. ⌜ ((groups values : List ℕ) → t ≡ someEntry (λ e. not (eqb (e .id) exploded) && (has (e .id) (listed (now (id .entry)) groups 0 count) || leb 2 (timesOf (e .id) (listed (now (ids .entry)) values 0 entries)))) (listed (now (ids .entry)) values 0 entries)) ⌝ }
+{
+    let mut i = 0;
+    while i < entries {
+        if id_taken(id, count, ids, entries, exploded, ids[i]) {
+            return true;
+        }
+        i += 1;
+    }
+    false
+}
+
+// The rows of an accepted request: the entries are numbered in the exploded group's box, and then written column by column.
+fn write_entries(
+    id: &mut [u32],
+    l: &mut [u32],
+    r: &mut [u32],
+    q: &mut [u32],
+    count: usize,
+    own: usize,
+    exploded: u32,
+    upright: bool,
+    entries: usize,
+    ids: &[u32],
+    quotas: &[u32],
+    ends: &[usize],
+    sums: &[u64],
+)
+    requires { ⌜ checked (columns (now id) (now l) (now r) (now q)) count ≡ answer (rows (columns (now id) (now l) (now r) (now q)) count) ⌝ }
+    requires { ⌜ PlaceIn (now id) count exploded own × (own < count) ⌝ }
+    requires { ⌜ ((a : Request) × (s : ℕ) × Told (work (now ids) (now quotas) (now ends) (now sums)) exploded upright entries s a × (accepted (length (now id)) (groupsOf (rows (columns (now id) (now l) (now r) (now q)) count)) a ≡ answer a)) ⌝ }
+    ensures { λ _. ⌜ ((a : Request) (s : ℕ) → Told (work (now (ids .entry)) (now (quotas .entry)) (now (ends .entry)) (now (sums .entry))) exploded upright entries s a → accepted (length (now (id .entry))) (groupsOf (rows (columns (now (id .entry)) (now (l .entry)) (now (r .entry)) (now (q .entry))) count)) a ≡ answer a → columns (now (id .exit)) (now (l .exit)) (now (r .exit)) (now (q .exit)) ≡ put (refineRows a (rows (columns (now (id .entry)) (now (l .entry)) (now (r .entry)) (now (q .entry))) count)) (columns (now (id .entry)) (now (l .entry)) (now (r .entry)) (now (q .entry)))) ⌝ }
+{
+    let mut new_l = [0u32; 256];
+    let mut new_r = [0u32; 256];
+    let area = Box::new(l[own], r[own], q[own]);
+    number_trees(
+        quotas,
+        ends,
+        sums,
+        0,
+        entries,
+        upright,
+        area,
+        &mut new_l[..entries],
+        &mut new_r[..entries],
+    );
+    place(&mut *id, own, count, exploded, ids, ids, entries);
+    place(&mut *l, own, count, exploded, ids, &new_l, entries);
+    place(&mut *r, own, count, exploded, ids, &new_r, entries);
+    place(&mut *q, own, count, exploded, ids, quotas, entries);
+}
+
+// A request that was read: 20 to 24, then its rows.
+fn explode(
+    id: &mut [u32],
+    l: &mut [u32],
+    r: &mut [u32],
+    q: &mut [u32],
+    count: usize,
+    exploded: u32,
+    upright: bool,
+    entries: usize,
+    quota: u64,
+    ids: &[u32],
+    quotas: &[u32],
+    ends: &[usize],
+    sums: &[u64],
+) -> Counted
+    requires { ⌜ checked (columns (now id) (now l) (now r) (now q)) count ≡ answer (rows (columns (now id) (now l) (now r) (now q)) count) ⌝ }
+    requires { ⌜ ((a : Request) × Told (work (now ids) (now quotas) (now ends) (now sums)) exploded upright entries quota a) ⌝ }
+    ensures { λ t. ⌜ ((a : Request) → Told (work (now (ids .entry)) (now (quotas .entry)) (now (ends .entry)) (now (sums .entry))) exploded upright entries quota a → (countedSays t ≡ counted (explodedRows (length (now (id .entry))) (rows (columns (now (id .entry)) (now (l .entry)) (now (r .entry)) (now (q .entry))) count) a)) × (columns (now (id .exit)) (now (l .exit)) (now (r .exit)) (now (q .exit)) ≡ afterwards (explodedRows (length (now (id .entry))) (rows (columns (now (id .entry)) (now (l .entry)) (now (r .entry)) (now (q .entry))) count) a) (columns (now (id .entry)) (now (l .entry)) (now (r .entry)) (now (q .entry))))) ⌝ }
+{
+    let own = place_of(&*id, count, exploded);
+    if own == count {
+        return Counted::Refused(Refusal::IdUnknown);
+    }
+    if times(ids, entries, exploded) != 1 {
+        return Counted::Refused(Refusal::ExplodedEntry);
+    }
+    if some_id_taken(&*id, count, ids, entries, exploded) {
+        return Counted::Refused(Refusal::IdTaken);
+    }
+    if quota != q[own] as u64 {
+        return Counted::Refused(Refusal::QuotaSum);
+    }
+    if id.len() < count + entries - 1 {
+        return Counted::Refused(Refusal::RowsFull);
+    }
+    write_entries(
+        id,
+        l,
+        r,
+        q,
+        count,
+        own,
+        exploded,
+        upright,
+        entries,
+        ids,
+        quotas,
+        ends,
+        sums,
+    );
+    Counted::Count(count + entries - 1)
+}

@@ -1,0 +1,5 @@
+pub mod Sums
+pub mod Trees
+pub mod Numbering
+pub mod ReadLaws
+pub mod Accepting
