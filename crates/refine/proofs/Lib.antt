@@ -4,5 +4,8 @@ pub mod Soundness
 pub mod After
 pub mod Cutting
 pub mod Refinement
+pub mod ReadingLaws
 pub mod NumberingLaws
 pub mod PlacingLaws
+pub mod Placement
+pub mod Entering

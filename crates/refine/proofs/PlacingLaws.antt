@@ -8,7 +8,7 @@ use native.Mathlib.Numerals.{add-one}
 use lib.Dec.{eqb}
 use lib.ListN.{length, getD, set, length-set}
 use borrow.Author.Tests.{eq-eqb, ne-eqb}
-use Rattle.request.specs.Entries.{Entry, entry, pick, count}
+use Rattle.request.specs.Entries.{Entry, entry, pick, count, someEntry}
 use Rattle.refine.specs.Placing.{placed}
 use Rattle.refine.specs.Work.{listed}
 
@@ -92,3 +92,17 @@ module _ {column₀ : List ℕ} {own next u : ℕ} {ids values : List ℕ} {n : 
   pub done : n ≤ i → column ≡ placed u own next (listed ids values 0 n) column₀
   unfolding placed
   done h = rw (listed-end ids values i n h) at (p .whole)
+
+-- a test over the entries, one after another
+module _ (p : Entry → Bool) (ids values : List ℕ) (i n : ℕ) (h : i < n) where
+  pub some-here : p (entry (getD ids i 0) (getD values i 0)) ≡ true → someEntry p (listed ids values i (n - i)) ≡ true
+  unfolding someEntry
+  some-here e = ap (someEntry p) (listed-step ids values i n h) ∙ rw e
+
+  pub some-past : p (entry (getD ids i 0) (getD values i 0)) ≡ false → someEntry p (listed ids values i (n - i)) ≡ someEntry p (listed ids values (i + 1) (n - (i + 1)))
+  unfolding someEntry
+  some-past e = ap (someEntry p) (listed-step ids values i n h) ∙ rw e
+
+pub some-none : (p : Entry → Bool) (ids values : List ℕ) (i n : ℕ) → n ≤ i → someEntry p (listed ids values i (n - i)) ≡ false
+unfolding someEntry
+some-none p ids values i n h = rw (listed-end ids values i n h)

@@ -66,6 +66,25 @@ abbrev pub directionBy : Bool → Direction
 directionBy true = upright
 directionBy false = inverted
 
+abbrev pub isUpright : Direction → Bool
+isUpright upright = true
+isUpright inverted = false
+
+-- a request without its trees: how many entries they have, and all their quota
+pub record Summary : Type 0 where
+  pub exploded : ℕ
+  pub upright : Bool
+  pub entries : ℕ
+  pub quota : ℕ
+
+abbrev pub summary : Answer Request → Answer Summary
+summary found = then found λ q. answer (record { exploded = q .exploded; upright = isUpright (q .direction); entries = size (q .trees); quota = whole (q .trees) })
+
+-- the trees of a request that is heard stand in the work columns, with 1 to 256 entries
+abbrev pub HeardIn : Answer Request → Work → Type 0
+HeardIn (answer q) w = Stored w 0 (q .trees) × (1 ≤ size (q .trees)) × (size (q .trees) ≤ 256)
+HeardIn (refused n) w = Unit {0}
+
 -- the numbering of a forest that stands in the work columns, in a box of the forest's quota
 pub record Boxed (w : Work) (from to l r quota : ℕ) (ls rs : List ℕ) (t : Forest) : Type 0 where
   pub stored : Stored w from t

@@ -19,3 +19,15 @@ enum Walk {
     Reach(usize, usize, u64),
     Refused(Refusal),
 }
+
+// A request as it is heard; its entries stand in the work columns.
+enum Heard {
+    // Exploded id, whether the direction is upright, number of entries, and all their quota.
+    Request {
+        exploded: u32,
+        upright: bool,
+        entries: usize,
+        quota: u64,
+    },
+    Refused(Refusal),
+}

@@ -2,12 +2,14 @@
 ghost use mathlib.Core.Path.{_≡_};
 ghost use Prim.Native.Nat.{_≤_};
 ghost use Rattle.number.specs.Says.{drawnSays};
-ghost use Rattle.request.specs.Reading.{positiveAt, entryAt, treesAt};
-ghost use Rattle.refine.specs.Says.{takenSays, walkSays};
-ghost use Rattle.refine.specs.Work.{work, Roomy, Walked, reached};
+ghost use Rattle.request.specs.Reading.{positiveAt, entryAt, treesAt, requestOf};
+ghost use Rattle.refine.specs.Says.{takenSays, walkSays, heardSays};
+ghost use Rattle.refine.specs.Work.{work, Roomy, Walked, reached, HeardIn, summary};
+use crate::Heard;
 use crate::Taken;
 use crate::Walk;
 use number::Drawn;
+use rules::GREATEST_DEPTH;
 use rules::MOST_ENTRIES;
 use rules::Refusal;
 
@@ -106,4 +108,56 @@ pub(crate) fn read_trees(
         }
     }
     Walk::Reach(place, next, sum)
+}
+
+// A request's bytes: exploded id, direction, number of trees, and the trees.
+pub(crate) fn read_request(
+    bytes: &[u8],
+    ids: &mut [u32],
+    quotas: &mut [u32],
+    ends: &mut [usize],
+    sums: &mut [u64],
+) -> Heard
+    requires { ⌜ Roomy (work (now ids) (now quotas) (now ends) (now sums)) ⌝ }
+    ensures { λ t. ⌜ heardSays t ≡ summary (requestOf (now (bytes .entry))) ⌝ }
+    ensures { λ t. ⌜ HeardIn (requestOf (now (bytes .entry))) (work (now (ids .exit)) (now (quotas .exit)) (now (ends .exit)) (now (sums .exit))) ⌝ }
+{
+    match positive_at(bytes, 0) {
+        Drawn::Refused(why) => Heard::Refused(why),
+        Drawn::Number(exploded, after_exploded) => match number::number_at(bytes, after_exploded) {
+            Drawn::Refused(why) => Heard::Refused(why),
+            Drawn::Number(direction, after_direction) => {
+                if 1 < direction {
+                    return Heard::Refused(Refusal::Direction);
+                }
+                match positive_at(bytes, after_direction) {
+                    Drawn::Refused(why) => Heard::Refused(why),
+                    Drawn::Number(trees, first) => match read_trees(
+                        bytes,
+                        first,
+                        trees,
+                        GREATEST_DEPTH,
+                        0,
+                        &mut *ids,
+                        &mut *quotas,
+                        &mut *ends,
+                        &mut *sums,
+                    ) {
+                        Walk::Refused(why) => Heard::Refused(why),
+                        Walk::Reach(end, entries, quota) => {
+                            if end < bytes.len() {
+                                return Heard::Refused(Refusal::BytesRemain);
+                            }
+                            Heard::Request {
+                                exploded,
+                                upright: direction == 0,
+                                entries,
+                                quota,
+                            }
+                        }
+                    },
+                }
+            }
+        },
+    }
 }

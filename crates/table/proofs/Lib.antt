@@ -4,3 +4,7 @@ pub mod Meeting
 pub mod Finding
 pub mod Lengths
 pub mod Passing
+pub mod Writing
+pub mod Filling
+pub mod Ending
+pub mod StoredLaws

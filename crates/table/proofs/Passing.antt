@@ -56,11 +56,11 @@ check-passed c count e =
 pub passed-holds : {c : Columns} {count : ℕ} → Passed c count → Holds c count
 passed-holds p = holds-count (p .lengths) (p .most)
 
-given-answer : {A : Type 0} (a : Answer A) → given a ≡ answer tt → (x : A) × (a ≡ answer x)
+pub given-answer : {A : Type 0} (a : Answer A) → given a ≡ answer tt → (x : A) × (a ≡ answer x)
 given-answer (answer x) e = (x, refl)
 given-answer (refused n) e = never-refused e
 
-given-refused : {A : Type 0} (a : Answer A) {n : ℕ} → given a ≡ refused n → a ≡ refused n
+pub given-refused : {A : Type 0} (a : Answer A) {n : ℕ} → given a ≡ refused n → a ≡ refused n
 given-refused (answer x) e = never-refused (sym e)
 given-refused (refused m) {n} e = let f : m ≡ n = cc in ap refused f
 

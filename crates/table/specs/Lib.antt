@@ -7,3 +7,4 @@ pub mod Order
 pub mod Found
 pub mod Stored
 pub mod Says
+pub mod Read
