@@ -2,9 +2,14 @@
 use mathlib.Core.Path.{_≡_, refl}
 use mathlib.Core.List.{map}
 use Rattle.number.specs.Number.{numberAt, groupsAt, lastByte, followed, above, bytesOf, groupsOf}
+use Rattle.boxes.specs.Boxes.{apart}
+use Rattle.table.specs.Columns.{rowsFrom, put}
+use Rattle.table.specs.Check.{someRow, somePair, lengthsBad, countBad, valueBad, sameId, rangesMeet, soundRows, checked}
+use Rattle.table.specs.Fresh.{freshRows}
+use Rattle.table.specs.Order.{subgroup, orderBy, rowOf, orderIn, order}
 use Rattle.cases.specs.Cases.{computed, stated}
-use Rattle.cases.specs.Table.{cases}
+use Rattle.cases.specs.Table.{cases, beside, upright, inverted}
 
 pub cases-right : map computed cases ≡ map stated cases
-unfolding cases numberAt groupsAt lastByte followed above bytesOf groupsOf
+unfolding cases beside upright inverted numberAt groupsAt lastByte followed above bytesOf groupsOf rowsFrom put someRow somePair lengthsBad countBad valueBad sameId rangesMeet apart soundRows checked freshRows subgroup orderBy rowOf orderIn order
 cases-right = refl

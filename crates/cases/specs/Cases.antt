@@ -1,21 +1,46 @@
 -- The kinds of worked example in document 01: what is given, what the definitions make of it, and what the document says.
 use Prim.Native.Nat.{ℕ}
-use mathlib.Core.List.{List}
+use mathlib.Core.List.{List, [], _∷_}
 use lib.ListN.{length}
-use Rattle.rules.specs.Answers.{Answer}
+use Rattle.rules.specs.Answers.{Answer, answer}
 use Rattle.number.specs.Number.{Number, found, numberAt, bytesOf}
+use Rattle.table.specs.Columns.{Row, Columns, columns, rows, put, counted, afterwards}
+use Rattle.table.specs.Fresh.{freshRows}
+use Rattle.table.specs.Order.{Order, order}
 
 pub data Case : Type 0 where
   -- a number and its stored bytes
   stored : ℕ → List ℕ → Case
+  -- fresh of a group and a quota on columns of one row, and that row after it
+  made : ℕ → ℕ → Row → Case
+  -- two groups of a table of these rows, and how they stand to each other
+  compared : List Row → ℕ → ℕ → Answer Order → Case
 
 -- what the definitions say, and what the document says
 pub data Outcome : Type 0 where
   -- a number's bytes, and what is read from bytes
   codec : List ℕ → Answer Number → Outcome
+  -- a call's answer, and the first row after it
+  table : Answer ℕ → List Row → Outcome
+  -- the order of two groups
+  standing : Answer Order → Outcome
+
+-- columns of one row that nobody wrote yet, and columns of just these rows
+abbrev pub blank : Columns
+blank = columns (0 ∷ []) (0 ∷ []) (0 ∷ []) (0 ∷ [])
+
+abbrev pub columnsOf : List Row → Columns
+columnsOf t = put t (columns [] [] [] [])
+
+abbrev pub row : (id l r q : ℕ) → Row
+row id l r q = record { id = id; l = l; r = r; q = q }
 
 abbrev pub computed : Case → Outcome
 computed (stored value bytes) = codec (bytesOf value) (numberAt bytes 0)
+computed (made group quota after) = table (counted (freshRows blank group quota)) (rows (afterwards (freshRows blank group quota) blank) 1)
+computed (compared t a b said) = standing (order (columnsOf t) (length t) a b)
 
 abbrev pub stated : Case → Outcome
 stated (stored value bytes) = codec bytes (found value (length bytes))
+stated (made group quota after) = table (answer 1) (after ∷ [])
+stated (compared t a b said) = standing said

@@ -1,7 +1,11 @@
 // The test program: cases that are run, with their output held to the file stdout.
+mod boxes_cases;
 mod numbers;
 mod show;
+mod tables;
 
 fn main() {
     numbers::all();
+    boxes_cases::all();
+    tables::all();
 }

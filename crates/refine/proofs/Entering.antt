@@ -68,11 +68,10 @@ stored-values : (of : Work → List ℕ) (f : Entry → ℕ) (w : Work)
 stored-values of f w e at none s = tt
 stored-values of f w e at (tree i q c r) s =
     let one : at + 1 ≡ suc at = add-one at in
-    let next : at + 1 + size c ≡ suc at + length (map f (preL c)) = let n : length (map f (preL c)) ≡ size c = lib.ListN.length-map (preL c) f ∙ sym (size-length c) in omega arith in
-    (
+    let next : at + 1 + size c ≡ suc at + length (map f (preL c)) = let n : length (map f (preL c)) ≡ size c = lib.ListN.length-map (preL c) f ∙ sym (size-length c) in omega arith in (
       e at i q c r s,
       rw (map-append f (preL c) (preL r))
-      (values-join (of w) (suc at) (map f (preL c)) (map f (preL r)) (rw one at (stored-values of f w e (at + 1) c (s .2))) (rw next at (stored-values of f w e (at + 1 + size c) r (s .3)))),
+          (values-join (of w) (suc at) (map f (preL c)) (map f (preL r)) (rw one at (stored-values of f w e (at + 1) c (s .2))) (rw next at (stored-values of f w e (at + 1 + size c) r (s .3)))),
     )
   where
     values-join : (values : List ℕ) (at : ℕ) (s t : List ℕ) → Values values at s → Values values (at + length s) t → Values values at (s ++ t)

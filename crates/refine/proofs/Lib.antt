@@ -9,3 +9,4 @@ pub mod NumberingLaws
 pub mod PlacingLaws
 pub mod Placement
 pub mod Entering
+pub mod Written

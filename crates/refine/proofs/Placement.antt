@@ -25,20 +25,20 @@ unfolding placed
 placed-none u own next [] column h = refl
 placed-none u own next (e ∷ s) column h =
     (elim (eqb u (e .id)) as (λ b. pick b 1 0 + count u s ≡ 0
-        → cond b (placed u own next s (set column own (e .quota))) (placed u own (suc next) s (set column next (e .quota))) ≡ sets (set column next (e .quota)) (suc next) (map (λ e. e .quota) s))
-      [ true ↦ λ h. let z : ⊥ = omega arith in absurd z | false ↦ λ h. placed-none u own (suc next) s (set column next (e .quota)) (omega arith) ]) h
+    → cond b (placed u own next s (set column own (e .quota))) (placed u own (suc next) s (set column next (e .quota))) ≡ sets (set column next (e .quota)) (suc next) (map (λ e. e .quota) s))
+    [ true ↦ λ h. let z : ⊥ = omega arith in absurd z | false ↦ λ h. placed-none u own (suc next) s (set column next (e .quota)) (omega arith) ]) h
 
 without-none : (u : ℕ) (s : List Entry) → count u s ≡ 0 → without u s ≡ s
 without-none u [] h = refl
 without-none u (e ∷ s) h =
     (elim (eqb u (e .id)) as (λ b. pick b 1 0 + count u s ≡ 0 → cond b (without u s) (e ∷ without u s) ≡ e ∷ s)
-      [ true ↦ λ h. let z : ⊥ = omega arith in absurd z | false ↦ λ h. ap (λ t. e ∷ t) (without-none u s (omega arith)) ]) h
+    [ true ↦ λ h. let z : ⊥ = omega arith in absurd z | false ↦ λ h. ap (λ t. e ∷ t) (without-none u s (omega arith)) ]) h
 
 quota-none : (u : ℕ) (s : List Entry) → count u s ≡ 0 → quotaOf u s ≡ 0
 quota-none u [] h = refl
 quota-none u (e ∷ s) h =
     (elim (eqb u (e .id)) as (λ b. pick b 1 0 + count u s ≡ 0 → pick b (e .quota) 0 + quotaOf u s ≡ 0)
-      [ true ↦ λ h. let z : ⊥ = omega arith in absurd z | false ↦ λ h. omega (arith, quota-none u s (omega arith)) ]) h
+    [ true ↦ λ h. let z : ⊥ = omega arith in absurd z | false ↦ λ h. omega (arith, quota-none u s (omega arith)) ]) h
 
 pub placed-one : (u own next : ℕ) (s : List Entry) (column : List ℕ) → own < next → count u s ≡ 1
     → placed u own next s column ≡ sets (set column own (quotaOf u s)) next (map (λ e. e .quota) (without u s))
@@ -46,16 +46,17 @@ unfolding placed
 placed-one u own next [] column h k = let z : ⊥ = omega arith in absurd z
 placed-one u own next (e ∷ s) column h k =
     (elim (eqb u (e .id)) as (λ b. pick b 1 0 + count u s ≡ 1
-        → cond b (placed u own next s (set column own (e .quota))) (placed u own (suc next) s (set column next (e .quota)))
-        ≡ sets (set column own (pick b (e .quota) 0 + quotaOf u s)) next (map (λ e. e .quota) (cond b (without u s) (e ∷ without u s))))
-      [ true ↦ λ k.
-        let n : count u s ≡ 0 = omega arith in
-        let v : e .quota ≡ e .quota + quotaOf u s = omega (arith, quota-none u s n) in
-        placed-none u own next s (set column own (e .quota)) n ∙ ap₂ (λ x t. sets (set column own x) next (map (λ e. e .quota) t)) v (sym (without-none u s n))
+    → cond b (placed u own next s (set column own (e .quota))) (placed u own (suc next) s (set column next (e .quota)))
+    ≡ sets (set column own (pick b (e .quota) 0 + quotaOf u s)) next (map (λ e. e .quota) (cond b (without u s) (e ∷ without u s)))) [
+      | true ↦ λ k.
+          let n : count u s ≡ 0 = omega arith in
+          let v : e .quota ≡ e .quota + quotaOf u s = omega (arith, quota-none u s n) in
+          placed-none u own next s (set column own (e .quota)) n ∙ ap₂ (λ x t. sets (set column own x) next (map (λ e. e .quota) t)) v (sym (without-none u s n))
       | false ↦ λ k.
-        let v : quotaOf u s ≡ 0 + quotaOf u s = omega arith in
-        placed-one u own (suc next) s (set column next (e .quota)) (omega arith) (omega arith)
-        ∙ ap (λ t. sets t (suc next) (map (λ e. e .quota) (without u s))) (set-comm column next own (e .quota) (quotaOf u s) (λ z. omega (arith, z)) ∙ ap (λ x. set (set column own x) next (e .quota)) v) ]) k
+          let v : quotaOf u s ≡ 0 + quotaOf u s = omega arith in
+          placed-one u own (suc next) s (set column next (e .quota)) (omega arith) (omega arith)
+          ∙ ap (λ t. sets t (suc next) (map (λ e. e .quota) (without u s))) (set-comm column next own (e .quota) (quotaOf u s) (λ z. omega (arith, z)) ∙ ap (λ x. set (set column own x) next (e .quota)) v)
+    ]) k
 
 -- the rows of columns, by one number of each
 map-from : (c : Columns) (f : Row → ℕ) (s : List ℕ) (i m : ℕ) → i + m ≤ length s → ((k : ℕ) → i ≤ k → k < i + m → f (rowAt c k) ≡ getD s k 0)
@@ -82,8 +83,8 @@ map-without : (f : Entry → ℕ) (u : ℕ) (s : List Entry) → map (λ e. e .q
 map-without f u [] = refl
 map-without f u (e ∷ s) =
     elim (eqb u (e .id)) as (λ b. map (λ e. e .quota) (cond b (without u (map (λ e. entry (e .id) (f e)) s)) (entry (e .id) (f e) ∷ without u (map (λ e. entry (e .id) (f e)) s)))
-        ≡ map f (cond b (without u s) (e ∷ without u s)))
-      [ true ↦ map-without f u s | false ↦ ap (λ t. f e ∷ t) (map-without f u s) ]
+    ≡ map f (cond b (without u s) (e ∷ without u s)))
+    [ true ↦ map-without f u s | false ↦ ap (λ t. f e ∷ t) (map-without f u s) ]
 
 count-map : (f : Entry → ℕ) (u : ℕ) (s : List Entry) → count u (map (λ e. entry (e .id) (f e)) s) ≡ count u s
 count-map f u [] = refl
@@ -93,7 +94,7 @@ without-length : (u : ℕ) (s : List Entry) → count u s ≡ 1 → length (with
 without-length u [] h = let z : ⊥ = omega arith in absurd z
 without-length u (e ∷ s) h =
     (elim (eqb u (e .id)) as (λ b. pick b 1 0 + count u s ≡ 1 → length (cond b (without u s) (e ∷ without u s)) + 1 ≡ suc (length s))
-      [ true ↦ λ h. rw (without-none u s (omega arith)) (omega arith) | false ↦ λ h. omega (arith, without-length u s (omega arith)) ]) h
+    [ true ↦ λ h. rw (without-none u s (omega arith)) (omega arith) | false ↦ λ h. omega (arith, without-length u s (omega arith)) ]) h
 
 map-append : {A B : Type 0} (f : A → B) (s t : List A) → map f (s ++ t) ≡ map f s ++ map f t
 map-append f [] t = refl

@@ -1,6 +1,7 @@
 // The numbers of a request's entries: each child is cut off what is left of its parent's box.
 ghost use mathlib.Core.Path.{_≡_};
-ghost use Prim.Native.Nat.{_+_, _-_, _≤_};
+ghost use mathlib.Core.List.{List};
+ghost use Prim.Native.Nat.{ℕ, _+_, _-_, _≤_};
 ghost use lib.ListN.{length};
 ghost use Rattle.boxes.specs.Boxes.{boxOf};
 ghost use Rattle.request.specs.Forest.{Forest};
@@ -70,8 +71,8 @@ pub(crate) fn number_trees(
     r: &mut [u32],
 )
     requires { ⌜ (to ≤ length (now quotas)) × ((to ≤ length (now ends)) × (to ≤ length (now sums))) ⌝ }
-    requires { ⌜ ((t : Forest) × Boxed (work (now quotas) (now quotas) (now ends) (now sums)) from to (area .l .0) (area .r .0) (area .quota) (now l) (now r) t) ⌝ }
-    ensures { λ _. ⌜ ((t : Forest) → Boxed (work (now (quotas .entry)) (now (quotas .entry)) (now (ends .entry)) (now (sums .entry))) from to (area .l .0) (area .r .0) (area .quota) (now (l .entry)) (now (r .entry)) t → (now (l .exit) ≡ lefts (directionBy upright) (area .l .0) t) × (now (r .exit) ≡ rights (directionBy upright) (area .r .0) t)) ⌝ }
+    requires { ⌜ ((t : Forest) × (ids : List ℕ) × Boxed (work ids (now quotas) (now ends) (now sums)) from to (area .l .0) (area .r .0) (area .quota) (now l) (now r) t) ⌝ }
+    ensures { λ _. ⌜ ((t : Forest) (ids : List ℕ) → Boxed (work ids (now (quotas .entry)) (now (ends .entry)) (now (sums .entry))) from to (area .l .0) (area .r .0) (area .quota) (now (l .entry)) (now (r .entry)) t → (now (l .exit) ≡ lefts (directionBy upright) (area .l .0) t) × (now (r .exit) ≡ rights (directionBy upright) (area .r .0) t)) ⌝ }
 {
     let mut p = from;
     let mut rest = area;

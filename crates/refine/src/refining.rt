@@ -68,14 +68,15 @@ fn write_entries(
     quotas: &[u32],
     ends: &[usize],
     sums: &[u64],
+    new_l: &mut [u32],
+    new_r: &mut [u32],
 )
+    requires { ⌜ (length (now «new_l») ≡ 256) × (length (now «new_r») ≡ 256) ⌝ }
     requires { ⌜ checked (columns (now id) (now l) (now r) (now q)) count ≡ answer (rows (columns (now id) (now l) (now r) (now q)) count) ⌝ }
     requires { ⌜ PlaceIn (now id) count exploded own × (own < count) ⌝ }
     requires { ⌜ ((a : Request) × (s : ℕ) × Told (work (now ids) (now quotas) (now ends) (now sums)) exploded upright entries s a × (accepted (length (now id)) (groupsOf (rows (columns (now id) (now l) (now r) (now q)) count)) a ≡ answer a)) ⌝ }
     ensures { λ _. ⌜ ((a : Request) (s : ℕ) → Told (work (now (ids .entry)) (now (quotas .entry)) (now (ends .entry)) (now (sums .entry))) exploded upright entries s a → accepted (length (now (id .entry))) (groupsOf (rows (columns (now (id .entry)) (now (l .entry)) (now (r .entry)) (now (q .entry))) count)) a ≡ answer a → columns (now (id .exit)) (now (l .exit)) (now (r .exit)) (now (q .exit)) ≡ put (refineRows a (rows (columns (now (id .entry)) (now (l .entry)) (now (r .entry)) (now (q .entry))) count)) (columns (now (id .entry)) (now (l .entry)) (now (r .entry)) (now (q .entry)))) ⌝ }
 {
-    let mut new_l = [0u32; 256];
-    let mut new_r = [0u32; 256];
     let area = Box::new(l[own], r[own], q[own]);
     number_trees(
         quotas,
@@ -89,8 +90,8 @@ fn write_entries(
         &mut new_r[..entries],
     );
     place(&mut *id, own, count, exploded, ids, ids, entries);
-    place(&mut *l, own, count, exploded, ids, &new_l, entries);
-    place(&mut *r, own, count, exploded, ids, &new_r, entries);
+    place(&mut *l, own, count, exploded, ids, &*new_l, entries);
+    place(&mut *r, own, count, exploded, ids, &*new_r, entries);
     place(&mut *q, own, count, exploded, ids, quotas, entries);
 }
 
@@ -109,7 +110,10 @@ fn explode(
     quotas: &[u32],
     ends: &[usize],
     sums: &[u64],
+    new_l: &mut [u32],
+    new_r: &mut [u32],
 ) -> Counted
+    requires { ⌜ (length (now «new_l») ≡ 256) × (length (now «new_r») ≡ 256) ⌝ }
     requires { ⌜ checked (columns (now id) (now l) (now r) (now q)) count ≡ answer (rows (columns (now id) (now l) (now r) (now q)) count) ⌝ }
     requires { ⌜ ((a : Request) × Told (work (now ids) (now quotas) (now ends) (now sums)) exploded upright entries quota a) ⌝ }
     ensures { λ t. ⌜ ((a : Request) → Told (work (now (ids .entry)) (now (quotas .entry)) (now (ends .entry)) (now (sums .entry))) exploded upright entries quota a → (countedSays t ≡ counted (explodedRows (length (now (id .entry))) (rows (columns (now (id .entry)) (now (l .entry)) (now (r .entry)) (now (q .entry))) count) a)) × (columns (now (id .exit)) (now (l .exit)) (now (r .exit)) (now (q .exit)) ≡ afterwards (explodedRows (length (now (id .entry))) (rows (columns (now (id .entry)) (now (l .entry)) (now (r .entry)) (now (q .entry))) count) a) (columns (now (id .entry)) (now (l .entry)) (now (r .entry)) (now (q .entry))))) ⌝ }
@@ -144,6 +148,8 @@ fn explode(
         quotas,
         ends,
         sums,
+        new_l,
+        new_r,
     );
     Counted::Count(count + entries - 1)
 }

@@ -8,3 +8,5 @@ pub mod Writing
 pub mod Filling
 pub mod Ending
 pub mod StoredLaws
+pub mod Soundness
+pub mod PartialOrder

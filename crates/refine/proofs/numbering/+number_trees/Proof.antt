@@ -1,6 +1,7 @@
 -- `refine::numbering::number_trees` meets its contract: a cycle of one, whose measure is the number of entries. The loop's invariant: what is left to number makes the whole.
 
 use mathlib.Core.Path.{_≡_, refl, ap, sym, _∙_, subst}
+use mathlib.Core.List.{List}
 use Prim.Native.Nat.{_+_, _-_, _≤_}
 use native.Mathlib.Omega.{arith}
 use lib.ListN.{length, getD, set, length-set, take, drop}
@@ -44,8 +45,8 @@ claims t = (next-child-reads.Asked, next-child-reads.Learnt, corner-reads.Asked,
 
 abbrev Inv-loop : lts.InvT-loop
 Inv-loop quotas ends sums from to upright l₀ r₀ p₀ rest₀ l r p rest =
-    (t : Forest) → Boxed (work quotas quotas ends sums) from to (rest₀ .l .0) (rest₀ .r .0) (rest₀ .quota) l₀ r₀ t
-    → Numbers (work quotas quotas ends sums) upright from to (lefts (directionBy upright) (rest₀ .l .0) t) (rights (directionBy upright) (rest₀ .r .0) t) p (rest .l .0) (rest .r .0) (rest .quota) l r
+    (t : Forest) (ids : List ℕ) → Boxed (work ids quotas ends sums) from to (rest₀ .l .0) (rest₀ .r .0) (rest₀ .quota) l₀ r₀ t
+    → Numbers (work ids quotas ends sums) upright from to (lefts (directionBy upright) (rest₀ .l .0) t) (rights (directionBy upright) (rest₀ .r .0) t) p (rest .l .0) (rest .r .0) (rest .quota) l r
 
 abbrev μ-loop : lts.MeasureT-loop
 μ-loop quotas ends sums from to upright l₀ r₀ p₀ rest₀ l r p rest = to - p
@@ -54,8 +55,8 @@ abbrev μ-loop : lts.MeasureT-loop
 first : (t : ℕ) (c : lts.In-loop (claims t) (here-at t) number-trees.Post Inv-loop μ-loop)
     → let a = c .before .before .before .before .before .before .before .args in
     let s = c .before .loop in
-    Here (work (now (a .quotas)) (now (a .quotas)) (now (a .ends)) (now (a .sums))) (a .upright) (a .from) (a .to) (lefts (directionBy (a .upright)) (a .area .l .0) (c .before .before .before .before .before .before .before .pre .1 .1 .0)) (rights (directionBy (a .upright)) (a .area .r .0) (c .before .before .before .before .before .before .before .pre .1 .1 .0)) (s .p) (s .rest .l .0) (s .rest .r .0) (s .rest .quota) (s .l) (s .r)
-first t c = let w = c .before .before .before .before .before .before .before .pre .1 .1 in here ((c .before .loop .inv) (w .0) (w .1)) (c .loop-test .taken)
+    Here (work (c .before .before .before .before .before .before .before .pre .1 .1 .1) (now (a .quotas)) (now (a .ends)) (now (a .sums))) (a .upright) (a .from) (a .to) (lefts (directionBy (a .upright)) (a .area .l .0) (c .before .before .before .before .before .before .before .pre .1 .1 .0)) (rights (directionBy (a .upright)) (a .area .r .0) (c .before .before .before .before .before .before .before .pre .1 .1 .0)) (s .p) (s .rest .l .0) (s .rest .r .0) (s .rest .quota) (s .l) (s .r)
+first t c = let w = c .before .before .before .before .before .before .before .pre .1 .1 in here ((c .before .loop .inv) (w .0) (w .1) (w .2)) (c .loop-test .taken)
 
 -- its box is there to be cut off
 dead : (t : ℕ) (c : lts.After-enum-told (claims t) (here-at t) number-trees.Post Inv-loop μ-loop) → ⊥
@@ -67,7 +68,7 @@ child-at : (t : ℕ) (c : lts.After-known-told (claims t) (here-at t) number-tre
 child-at t c = let h = first t (c .before .before .before .before .before .before .before) in child-is h (c .before .before .before .next-child .ensures) (h .sum-is) (c .before .child .given .1)
 
 number-trees-loop-holds : (t : ℕ) → lts.Need-loop-holds (claims t) (here-at t) number-trees.Post Inv-loop μ-loop
-number-trees-loop-holds t c = λ u x. begins x
+number-trees-loop-holds t c = λ u ids x. begins x
 
 number-trees-mul-end : (t : ℕ) → lts.Need-mul-end (claims t) (here-at t) number-trees.Post Inv-loop μ-loop
 number-trees-mul-end t c = omega arith
@@ -186,17 +187,17 @@ number-trees-number-trees-requires t c κs =
     let nr = h .r-length in
     let pl = part-length (c .before .before .before .before .before .before .before .before .before .before .before .before .before .before .loop .l) (c .before .before .before .before .before .before .before .before .before .before .before .before .before .before .loop .p) (s .args .from) (getD (now (s .args .ends)) (c .before .before .before .before .before .before .before .before .before .before .before .before .before .before .loop .p) 0) (c .before .before .before .before .before .corner .result .l .0) (h .behind) (omega arith) (omega arith) in
     let pr = part-length (c .before .before .before .before .before .before .before .before .before .before .before .before .before .before .loop .r) (c .before .before .before .before .before .before .before .before .before .before .before .before .before .before .loop .p) (s .args .from) (getD (now (s .args .ends)) (c .before .before .before .before .before .before .before .before .before .before .before .before .before .before .loop .p) 0) (c .before .before .before .before .before .corner .result .r .0) (h .behind) (omega arith) (omega arith) in
-    (omega (arith, s .pre .0), (omega (arith, s .pre .1 .0), (h .children, boxed-at h _ _ _ _ _ (h .end-is) (child-at t (c .before .before .before .before .before .before)) (c .before .before .inner .ensures) pl pr)))
+    (omega (arith, s .pre .0), (omega (arith, s .pre .1 .0), (h .children, c .before .before .before .before .before .before .before .before .before .before .before .before .before .before .before .before .before .before .before .before .pre .1 .1 .1, boxed-at h _ _ _ _ _ (h .end-is) (child-at t (c .before .before .before .before .before .before)) (c .before .before .inner .ensures) pl pr)))
 
 number-trees-loop-less : (t : ℕ) → lts.Need-loop-less (claims t) (here-at t) number-trees.Post Inv-loop μ-loop
 number-trees-loop-less t c = let h = first t (c .before .before .before .before .before .before .before .before .before .before .before .before .before .before .before .before .before .before) in let b = h .behind in let e = h .end-is in let a = h .ends-at in omega arith
 
 number-trees-loop-again : (t : ℕ) → lts.Need-loop-again (claims t) (here-at t) number-trees.Post Inv-loop μ-loop
 number-trees-loop-again t c =
-    λ u x.
+    λ u ids x.
     let s = c .before .before .before .before .before .before .before .before .before .before .before .before .before .before .before .before .before .before .before .before .before .before .before .before .before .args in
     let o = c .before .before .before .before .before .before .before .before .before .before .before .before .before .before .before .before .before .before .before .loop in
-    let h = here ((o .inv) u x) (c .before .before .before .before .before .before .before .before .before .before .before .before .before .before .before .before .before .before .loop-test .taken) in
+    let h = here ((o .inv) u ids x) (c .before .before .before .before .before .before .before .before .before .before .before .before .before .before .before .before .before .before .loop-test .taken) in
     let b = h .behind in
     let e = h .end-is in
     let a = h .ends-at in
@@ -206,17 +207,17 @@ number-trees-loop-again t c =
     let er = left-is h (c .before .before .before .before .before .before .before .before .before .before .before .before .before .before .next-child .ensures) (h .sum-is) (c .before .before .before .before .before .before .before .before .before .before .before .before .child .given .1) in
     let pl = part-length (o .l) (o .p) (s .from) (getD (now (s .ends)) (o .p) 0) (c .before .before .before .before .before .before .before .before .before .before .corner .result .l .0) b (omega arith) (omega arith) in
     let pr = part-length (o .r) (o .p) (s .from) (getD (now (s .ends)) (o .p) 0) (c .before .before .before .before .before .before .before .before .before .before .corner .result .r .0) b (omega arith) (omega arith) in
-    let filled = (c .before .before .before .before .number-trees .ensures) (h .children) (boxed-at h _ _ _ _ _ e ec (c .before .before .before .before .before .before .before .inner .ensures) pl pr) in
+    let filled = (c .before .before .before .before .number-trees .ensures) (h .children) ids (boxed-at h _ _ _ _ _ e ec (c .before .before .before .before .before .before .before .inner .ensures) pl pr) in
     moves h _ _ _ _ _ _ _ _ _ refl refl refl e ec er (c .before .before .before .before .before .before .before .before .before .before .corner .ensures) (filled .0 ∙ ap (λ (y : Box). lefts (directionBy (s .upright)) (y .l .0) (h .children)) (c .before .before .before .before .before .before .before .inner .ensures)) (filled .1 ∙ ap (λ (y : Box). rights (directionBy (s .upright)) (y .r .0) (h .children)) (c .before .before .before .before .before .before .before .inner .ensures))
 
 number-trees-same-length-3 : (t : ℕ) → lts.Need-same-length-3 (claims t) (here-at t) number-trees.Post Inv-loop μ-loop
-number-trees-same-length-3 t c = let w = c .before .before .before .before .before .before .before .pre .1 .1 in let n = (c .before .loop .inv) (w .0) (w .1) in omega (arith, n .l-length, w .1 .l-part, w .1 .ends-at)
+number-trees-same-length-3 t c = let w = c .before .before .before .before .before .before .before .pre .1 .1 in let n = (c .before .loop .inv) (w .0) (w .1) (w .2) in omega (arith, n .l-length, w .2 .l-part, w .2 .ends-at)
 
 number-trees-same-length-4 : (t : ℕ) → lts.Need-same-length-4 (claims t) (here-at t) number-trees.Post Inv-loop μ-loop
-number-trees-same-length-4 t c = let w = c .before .before .before .before .before .before .before .pre .1 .1 in let n = (c .before .loop .inv) (w .0) (w .1) in omega (arith, n .r-length, w .1 .r-part, w .1 .ends-at)
+number-trees-same-length-4 t c = let w = c .before .before .before .before .before .before .before .pre .1 .1 in let n = (c .before .loop .inv) (w .0) (w .1) (w .2) in omega (arith, n .r-length, w .2 .r-part, w .2 .ends-at)
 
 number-trees-returns-2 : (t : ℕ) → lts.Need-returns-2 (claims t) (here-at t) number-trees.Post Inv-loop μ-loop
-number-trees-returns-2 t c = λ u x. done ((c .before .loop .inv) u x) (c .loop-test .left)
+number-trees-returns-2 t c = λ u ids x. done ((c .before .loop .inv) u ids x) (c .loop-test .left)
 
 pub +number-trees-spec : {M : Type 1} → statement M
 +number-trees-spec = close μ λ t. lts.spec (claims t)
