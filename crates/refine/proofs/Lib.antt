@@ -10,3 +10,4 @@ pub mod PlacingLaws
 pub mod Placement
 pub mod Entering
 pub mod Written
+pub mod Judging

@@ -70,11 +70,11 @@ quota-by-id : (g : ℕ → ℕ) (u : ℕ) (s : List Entry) → count u s ≡ 1 �
 quota-by-id g u [] h = let z : ⊥ = omega arith in absurd z
 quota-by-id g u (e ∷ s) h = by-head g u e s (eqb u (e .id)) refl (quota-by-id g u s) h
 
-map-self : (s : List Entry) → map (λ e. entry (e .id) (e .quota)) s ≡ s
+pub map-self : (s : List Entry) → map (λ e. entry (e .id) (e .quota)) s ≡ s
 map-self [] = refl
 map-self (e ∷ s) = ap (λ t. e ∷ t) (map-self s)
 
-groups-length : (t : List Row) → length (groupsOf t) ≡ length t
+pub groups-length : (t : List Row) → length (groupsOf t) ≡ length t
 groups-length t = length-map t (λ w. entry (w .id) (w .q))
 
 -- how often an id comes does not hang on the values

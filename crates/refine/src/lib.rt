@@ -4,6 +4,7 @@ mod placing;
 mod reading;
 mod refining;
 
+pub use refining::refine;
 use rules::Refusal;
 
 // An entry as it is read.

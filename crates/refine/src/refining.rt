@@ -16,13 +16,17 @@ ghost use Rattle.request.specs.Acceptance.{accepted};
 ghost use Rattle.refine.specs.Placing.{PlaceIn};
 ghost use Rattle.refine.specs.Refine.{groupsOf, refineRows, explodedRows, refined};
 ghost use Rattle.refine.specs.Work.{work, listed, Told};
+use crate::Heard;
 use crate::numbering::number_trees;
 use crate::placing::place;
 use crate::placing::place_of;
 use crate::placing::times;
+use crate::reading::read_request;
 use boxes::Box;
 use rules::Refusal;
+use table::Checked;
 use table::Counted;
+use table::check_columns;
 
 // 22, for one entry's id: it isn't the exploded one, and it is in the table or comes twice.
 fn id_taken(id: &[u32], count: usize, ids: &[u32], entries: usize, exploded: u32, x: u32) -> bool
@@ -152,4 +156,88 @@ fn explode(
         new_r,
     );
     Counted::Count(count + entries - 1)
+}
+
+// A work column: a place for each of 256 entries.
+fn places() -> [u32; 256]
+    ensures { λ t. ⌜ 256 ≡ length t ⌝ }
+{
+    [0; 256]
+}
+
+fn indices() -> [usize; 256]
+    ensures { λ t. ⌜ 256 ≡ length t ⌝ }
+{
+    [0; 256]
+}
+
+fn amounts() -> [u64; 256]
+    ensures { λ t. ⌜ 256 ≡ length t ⌝ }
+{
+    [0; 256]
+}
+
+// A request to a sound table.
+fn refine_sound(
+    id: &mut [u32],
+    l: &mut [u32],
+    r: &mut [u32],
+    q: &mut [u32],
+    count: usize,
+    request: &[u8],
+) -> Counted
+    requires { ⌜ checked (columns (now id) (now l) (now r) (now q)) count ≡ answer (rows (columns (now id) (now l) (now r) (now q)) count) ⌝ }
+    ensures { λ t. ⌜ countedSays t ≡ counted (refined (columns (now (id .entry)) (now (l .entry)) (now (r .entry)) (now (q .entry))) count (now (request .entry))) ⌝ }
+    ensures { λ t. ⌜ columns (now (id .exit)) (now (l .exit)) (now (r .exit)) (now (q .exit)) ≡ afterwards (refined (columns (now (id .entry)) (now (l .entry)) (now (r .entry)) (now (q .entry))) count (now (request .entry))) (columns (now (id .entry)) (now (l .entry)) (now (r .entry)) (now (q .entry))) ⌝ }
+{
+    let mut ids = places();
+    let mut quotas = places();
+    let mut ends = indices();
+    let mut sums = amounts();
+    let mut new_l = places();
+    let mut new_r = places();
+    match read_request(request, &mut ids, &mut quotas, &mut ends, &mut sums) {
+        Heard::Refused(why) => Counted::Refused(why),
+        Heard::Request {
+            exploded,
+            upright,
+            entries,
+            quota,
+        } => explode(
+            id,
+            l,
+            r,
+            q,
+            count,
+            exploded,
+            upright,
+            entries,
+            quota,
+            &ids,
+            &quotas,
+            &ends,
+            &sums,
+            &mut new_l,
+            &mut new_r,
+        ),
+    }
+}
+
+// Explodes a group into the entries of a request: 10 to 13, the request from left to right, then 20 to 24. Accepted, the exploded id
+// keeps its row, the other entries take the next rows, and the answer is the new count; refused, no column changes.
+pub fn refine(
+    id: &mut [u32],
+    l: &mut [u32],
+    r: &mut [u32],
+    q: &mut [u32],
+    count: usize,
+    request: &[u8],
+) -> Counted
+    ensures { λ t. ⌜ countedSays t ≡ counted (refined (columns (now (id .entry)) (now (l .entry)) (now (r .entry)) (now (q .entry))) count (now (request .entry))) ⌝ }
+    ensures { λ t. ⌜ columns (now (id .exit)) (now (l .exit)) (now (r .exit)) (now (q .exit)) ≡ afterwards (refined (columns (now (id .entry)) (now (l .entry)) (now (r .entry)) (now (q .entry))) count (now (request .entry))) (columns (now (id .entry)) (now (l .entry)) (now (r .entry)) (now (q .entry))) ⌝ }
+{
+    match check_columns(&*id, &*l, &*r, &*q, count) {
+        Checked::Refused(why) => Counted::Refused(why),
+        Checked::Sound => refine_sound(id, l, r, q, count, request),
+    }
 }

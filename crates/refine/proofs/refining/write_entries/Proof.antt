@@ -91,8 +91,7 @@ number-trees-requires c κs =
     let s = c .before .before .before .before .before .before .before .before .before .before .before .before .before .before .before .before in
     let t = s .pre .1 .1 .1 in
     let w = t .2 .roomy in
-    let n = t .2 .entries-most in
-    (
+    let n = t .2 .entries-most in (
       (omega (arith, w .in-quotas), (omega (arith, w .in-ends), omega (arith, w .in-sums))),
       (t .0 .trees, now (s .args .ids), rw (c .before .before .new .ensures) (boxed-at s (t .0) (t .1) (t .2) (t .3))),
     )

@@ -1,0 +1,10 @@
+pub mod Replaced
+pub mod Agree
+pub mod Orders
+pub mod Step
+pub mod Answering
+pub mod Held
+pub mod OneCall
+pub mod Starting
+pub mod Whole
+pub mod Figures

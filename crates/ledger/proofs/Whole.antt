@@ -1,0 +1,88 @@
+-- Demand 3, for every list of calls from a fresh table.
+use mathlib.Core.Path.{_≡_, refl, ap₂, sym, _∙_}
+use mathlib.Core.Bool.{false}
+use mathlib.Core.List.{List, [], _∷_, _++_}
+use Prim.Native.Nat.{ℕ, _≤_}
+use borrow.Author.Tests.{leb-true}
+use Rattle.rules.proofs.Bools.{or-none}
+use Rattle.request.specs.Entries.{count}
+use Rattle.request.proofs.Sums.{same-length}
+use Rattle.table.specs.Columns.{Columns}
+use Rattle.table.specs.Order.{subgroup}
+use Rattle.table.proofs.Rows.{rows-length}
+use Rattle.refine.specs.Refine.{groupsOf, lOf, rOf}
+use Rattle.refine.proofs.After.{length-rows}
+use Rattle.ledger.specs.Ledger.{Ledger}
+use Rattle.ledger.specs.Calls.{Call, ledgerAfter, ledgerReplies, ledgerEnd, explodes, explodedIn, Table, rowsIn, engineAfter, engineReplies, engineEnd, engineStart}
+use Rattle.ledger.specs.Demand.{FreshAccepted, ledgerStart, ledger, engine, tableRows, Noted, Demand}
+use Rattle.ledger.proofs.Agree.{Meets}
+use Rattle.ledger.proofs.OneCall.{orders-alike, says-alike, meets-after, Unmoved, stays}
+use Rattle.ledger.proofs.Starting.{meets-fresh}
+
+-- the whole list
+meets-end : (s : Table) (g : Ledger) → Meets s g → (ks : List Call) → Meets (engineEnd s ks) (ledgerEnd g ks)
+unfolding engineEnd ledgerEnd
+meets-end s g m [] = m
+meets-end s g m (k ∷ ks) = meets-end (engineAfter s k) (ledgerAfter g k) (meets-after s g m k) ks
+
+replies-alike : (s : Table) (g : Ledger) → Meets s g → (ks : List Call) → engineReplies s ks ≡ ledgerReplies g ks
+unfolding engineReplies ledgerReplies
+replies-alike s g m [] = refl
+replies-alike s g m (k ∷ ks) = ap₂ (λ a rest. a ∷ rest) (says-alike s g m k) (replies-alike (engineAfter s k) (ledgerAfter g k) (meets-after s g m k) ks)
+
+stays-end : (s : Table) (g : Ledger) → Meets s g → (ks : List Call) (x : ℕ) → 1 ≤ count x (g .groups) → explodedIn x g ks ≡ false
+    → Unmoved x s (engineEnd s ks) (ledgerEnd g ks)
+unfolding engineEnd ledgerEnd explodedIn
+stays-end s g m [] x h quiet = record { there = h; l-stays = refl; r-stays = refl }
+stays-end s g m (k ∷ ks) x h quiet =
+    let p = or-none (explodes x g k) (explodedIn x (ledgerAfter g k) ks) quiet in
+    let u = stays s g m k x h (p .0) in
+    let v = stays-end (engineAfter s k) (ledgerAfter g k) (meets-after s g m k) ks x (u .there) (p .1) in
+    record { there = v .there; l-stays = v .l-stays ∙ u .l-stays; r-stays = v .r-stays ∙ u .r-stays }
+
+engine-append : (s : Table) (js ks : List Call) → engineEnd s (js ++ ks) ≡ engineEnd (engineEnd s js) ks
+unfolding engineEnd
+engine-append s [] ks = refl
+engine-append s (k ∷ js) ks = engine-append (engineAfter s k) js ks
+
+ledger-append : (g : Ledger) (js ks : List Call) → ledgerEnd g (js ++ ks) ≡ ledgerEnd (ledgerEnd g js) ks
+unfolding ledgerEnd
+ledger-append g [] ks = refl
+ledger-append g (k ∷ js) ks = ledger-append (ledgerAfter g k) js ks
+
+-- numbers that a group has at the end
+record Last (s : Table) (g : Ledger) (x l r : ℕ) : Type 0 where
+  there : 1 ≤ count x (g .groups)
+  l-last : lOf x (rowsIn s) ≡ l
+  r-last : rOf x (rowsIn s) ≡ r
+
+module _ (c : Columns) (id quota : ℕ) (f : FreshAccepted c id quota) where
+  meets : (ks : List Call) → Meets (engine c id quota ks) (ledger c id quota ks)
+  meets ks = meets-end (engineStart c id quota) (ledgerStart c id quota) (meets-fresh c id quota f) ks
+
+  -- numbers that were noted are those of the last table
+  last : {ks : List Call} {x l r : ℕ} → Noted c id quota ks x l r → Last (engine c id quota ks) (ledger c id quota ks) x l r
+  last {ks} {x} n =
+      let h = leb-true 1 (count x (ledger c id quota (n .earlier) .groups)) (n .there) in
+      let u = stays-end (engine c id quota (n .earlier)) (ledger c id quota (n .earlier)) (meets (n .earlier)) (n .later) x h (n .quiet) in
+      rw (n .joined, engine-append (engineStart c id quota) (n .earlier) (n .later), ledger-append (ledgerStart c id quota) (n .earlier) (n .later))
+      (record { there = u .there; l-last = u .l-stays ∙ sym (n .l-is); r-last = u .r-stays ∙ sym (n .r-is) })
+
+  -- and their order is the ledger's last order
+  pub noted-order : {ks : List Call} {x l r y l′ r′ : ℕ} → Noted c id quota ks x l r → Noted c id quota ks y l′ r′
+      → subgroup l r l′ r′ ≡ ledger c id quota ks .order x y
+  noted-order {ks} {x} {l} {r} {y} {l′} {r′} n n′ =
+      let m = last n in
+      let m′ = last n′ in
+      rw (← (m .l-last), ← (m .r-last), ← (m′ .l-last), ← (m′ .r-last)) (sym (meets ks .agree .ordered x y (m .there) (m′ .there)))
+
+  pub demand-3 : (ks : List Call) → Demand c id quota ks
+  demand-3 ks = record {
+    answers = replies-alike (engineStart c id quota) (ledgerStart c id quota) (meets-fresh c id quota f) ks;
+    groups = meets ks .agree .table;
+    count = sym (rows-length (engine c id quota ks .columns) 0 (engine c id quota ks .count))
+        ∙ sym (length-rows (tableRows c id quota ks)) ∙ same-length (groupsOf (tableRows c id quota ks)) (ledger c id quota ks .groups) (meets ks .agree .table);
+    numbers = λ x h. meets ks .agree .numbers x (leb-true 1 (count x (ledger c id quota ks .groups)) h);
+    orders = orders-alike (meets ks);
+    kept = λ x l r n. (last n .l-last, last n .r-last);
+  }

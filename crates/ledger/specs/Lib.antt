@@ -1,0 +1,3 @@
+pub mod Ledger
+pub mod Calls
+pub mod Demand

@@ -1,0 +1,160 @@
+-- `refine::refining::refine_sound` meets its contract: the request is read, and then exploded.
+use mathlib.Core.Path.{_≡_, ap, sym, _∙_}
+use denote.Ref.{now}
+use Rattle.request.specs.Reading.{requestOf}
+use Rattle.refine.specs.Refine.{refined}
+use Rattle.refine.specs.Says.{heardSays}
+use Rattle.refine.specs.Work.{Work, work, Told}
+use Rattle.refine.proofs.ReadingLaws.{Understood, understood, not-understood, roomy-kept}
+use borrow.Author.Needs.{needs}
+use Rattle.refine.proofs.refining.refine_sound.Statement.{statement}
+use Rattle.refine.proofs.refining.refine_sound.Tie as tie
+
+-- the work columns once the request is read
+abbrev held : tie.After-known-told2 → Work
+held c = let l = c .before .before .before .before .before .before .before .read-request .last .1 in work (l .0) (l .1 .0) (l .1 .1 .0) (l .1 .1 .1 .0)
+
+request-at : (c : tie.After-known-told2)
+    → Understood (requestOf (now (c .before .before .before .before .before .before .before .before .before .before .before .before .before .before .before .before .before .before .before .before .before .before .before .args .request))) (held c) (c .before .exploded .given .0 .0) (c .before .exploded .given .0 .1 .0) (c .before .exploded .given .0 .1 .1 .0) (c .before .exploded .given .0 .1 .1 .1 .0)
+request-at c = understood (requestOf (now (c .before .before .before .before .before .before .before .before .before .before .before .before .before .before .before .before .before .before .before .before .before .before .before .args .request))) (held c) (sym (ap heardSays (c .before .exploded .given .1)) ∙ c .before .before .before .before .before .before .before .read-request .ensures .0) (c .before .before .before .before .before .before .before .read-request .ensures .1)
+
+told-at : (c : tie.After-known-told2)
+    → Told (held c) (c .before .exploded .given .0 .0) (c .before .exploded .given .0 .1 .0) (c .before .exploded .given .0 .1 .1 .0) (c .before .exploded .given .0 .1 .1 .1 .0) (request-at c .request)
+told-at c =
+    let u = request-at c in
+    let k = c .before .before .before .before .before .before .before .read-request .kept .1 in
+    record {
+      roomy = record {
+        in-ids = k .0 ∙ sym (c .before .before .before .before .before .before .before .before .before .before .before .before .before .before .before .before .before .places .ensures);
+        in-quotas = k .1 .0 ∙ sym (c .before .before .before .before .before .before .before .before .before .before .before .before .before .before .before .before .places2 .ensures);
+        in-ends = k .1 .1 .0 ∙ sym (c .before .before .before .before .before .before .before .before .before .before .before .before .before .before .before .indices .ensures);
+        in-sums = k .1 .1 .1 .0 ∙ sym (c .before .before .before .before .before .before .before .before .before .before .before .before .before .before .amounts .ensures);
+      };
+      stored = u .stored;
+      exploded-is = u .exploded-is;
+      direction-is = u .direction-is;
+      entries-are = u .entries-are;
+      entries-most = u .entries-most;
+      quota-is = u .quota-is;
+    }
+
+places-requires : tie.Need-places-requires
+places-requires c κs = search needs
+
+places-requires-2 : tie.Need-places-requires-2
+places-requires-2 c κs = search needs
+
+indices-requires : tie.Need-indices-requires
+indices-requires c κs = search needs
+
+amounts-requires : tie.Need-amounts-requires
+amounts-requires c κs = search needs
+
+places-requires-3 : tie.Need-places-requires-3
+places-requires-3 c κs = search needs
+
+places-requires-4 : tie.Need-places-requires-4
+places-requires-4 c κs = search needs
+
+slice-aggregate-read-request : tie.Need-slice-aggregate-read-request
+slice-aggregate-read-request c = search needs
+
+slice-aggregate-read-request-2 : tie.Need-slice-aggregate-read-request-2
+slice-aggregate-read-request-2 c = search needs
+
+slice-aggregate-read-request-3 : tie.Need-slice-aggregate-read-request-3
+slice-aggregate-read-request-3 c = search needs
+
+slice-aggregate-read-request-4 : tie.Need-slice-aggregate-read-request-4
+slice-aggregate-read-request-4 c = search needs
+
+read-request-requires : tie.Need-read-request-requires
+read-request-requires c κs = search needs
+
+enum-known-why : tie.Need-enum-known-why
+enum-known-why c = search needs
+
+enum-known-exploded : tie.Need-enum-known-exploded
+enum-known-exploded c = search needs
+
+slice-aggregate-explode : tie.Need-slice-aggregate-explode
+slice-aggregate-explode c = search needs
+
+slice-aggregate-explode-2 : tie.Need-slice-aggregate-explode-2
+slice-aggregate-explode-2 c = search needs
+
+slice-aggregate-explode-3 : tie.Need-slice-aggregate-explode-3
+slice-aggregate-explode-3 c = search needs
+
+slice-aggregate-explode-4 : tie.Need-slice-aggregate-explode-4
+slice-aggregate-explode-4 c = search needs
+
+slice-aggregate-explode-5 : tie.Need-slice-aggregate-explode-5
+slice-aggregate-explode-5 c = search needs
+
+slice-aggregate-explode-6 : tie.Need-slice-aggregate-explode-6
+slice-aggregate-explode-6 c = search needs
+
+explode-requires : tie.Need-explode-requires
+explode-requires c κs =
+    let s = c .before .before .before .before .before .before .before .before .before .before .before .before .before .before .before .before .before .before .before .before .before .before .before .before .before .before .before .before .before .before .before .before .before in
+    let g = told-at (c .before .before .before .before .before .before .before .before .before .before) in
+    ((sym (c .before .before .before .before .before .before .before .before .before .before .before .before .before .before .before .before .before .before .before .before .before .before .before .places3 .ensures), sym (c .before .before .before .before .before .before .before .before .before .before .before .before .before .before .before .before .before .before .before .before .before .before .places4 .ensures)), (s .pre, (request-at (c .before .before .before .before .before .before .before .before .before .before) .request, g)))
+
+returns : tie.Need-returns
+unfolding refined
+returns c =
+    let s = c .before .before .before .before .before .before .before .before .before .before .before .before .before .before .before .before .before .before .before .before .before .before .before in
+    let e = not-understood (requestOf (now (s .args .request))) (sym (ap heardSays (c .before .why .given .1)) ∙ c .before .before .before .before .before .before .before .read-request .ensures .0) in
+    (rw (s .pre, e), rw (s .pre, e))
+
+same-length : tie.Need-same-length
+same-length c = search needs
+
+same-length-2 : tie.Need-same-length-2
+same-length-2 c = search needs
+
+same-length-3 : tie.Need-same-length-3
+same-length-3 c = search needs
+
+same-length-4 : tie.Need-same-length-4
+same-length-4 c = search needs
+
+returns-2 : tie.Need-returns-2
+unfolding refined
+returns-2 c =
+    let s = c .before .before .before .before .before .before .before .before .before .before .before .before .before .before .before .before .before .before .before .before .before .before .before .before .before .before .before .before .before .before .before .before .before .before .before .before .before .before .before .before .before .before .before .before in
+    let u = request-at (c .before .before .before .before .before .before .before .before .before .before .before .before .before .before .before .before .before .before .before .before .before) in
+    let done = (c .before .before .before .before .before .before .before .before .before .before .explode .ensures) (u .request) (told-at (c .before .before .before .before .before .before .before .before .before .before .before .before .before .before .before .before .before .before .before .before .before)) in
+    (rw (s .pre, u .is) (done .0), rw (s .pre, u .is) (done .1))
+
+pub refine-sound-spec : {M : Type 1} → statement M
+refine-sound-spec =
+    tie.close
+    (tie.spec
+    places-requires
+    places-requires-2
+    indices-requires
+    amounts-requires
+    places-requires-3
+    places-requires-4
+    slice-aggregate-read-request
+    slice-aggregate-read-request-2
+    slice-aggregate-read-request-3
+    slice-aggregate-read-request-4
+    read-request-requires
+    enum-known-why
+    enum-known-exploded
+    slice-aggregate-explode
+    slice-aggregate-explode-2
+    slice-aggregate-explode-3
+    slice-aggregate-explode-4
+    slice-aggregate-explode-5
+    slice-aggregate-explode-6
+    explode-requires
+    returns
+    same-length
+    same-length-2
+    same-length-3
+    same-length-4
+    returns-2)
