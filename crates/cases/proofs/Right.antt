@@ -7,9 +7,14 @@ use Rattle.table.specs.Columns.{rowsFrom, put}
 use Rattle.table.specs.Check.{someRow, somePair, lengthsBad, countBad, valueBad, sameId, rangesMeet, soundRows, checked}
 use Rattle.table.specs.Fresh.{freshRows}
 use Rattle.table.specs.Order.{subgroup, orderBy, rowOf, orderIn, order}
+use Rattle.request.specs.Entries.{someEntry}
+use Rattle.request.specs.Reading.{positiveAt, entryAt, treesBy, treesAt, directionOf, requestOf}
+use Rattle.request.specs.Acceptance.{accepted}
+use Rattle.refine.specs.Refine.{refineRows, explodedRows, refined}
+use Rattle.ledger.specs.Calls.{engineReply, engineAfter, engineReplies, engineEnd, engineStart}
 use Rattle.cases.specs.Cases.{computed, stated}
-use Rattle.cases.specs.Table.{cases, beside, upright, inverted}
+use Rattle.cases.specs.Table.{cases, figure9b, figure9bRows, beside, upright, inverted}
 
 pub cases-right : map computed cases ≡ map stated cases
-unfolding cases beside upright inverted numberAt groupsAt lastByte followed above bytesOf groupsOf rowsFrom put someRow somePair lengthsBad countBad valueBad sameId rangesMeet apart soundRows checked freshRows subgroup orderBy rowOf orderIn order
+unfolding cases figure9b figure9bRows beside upright inverted numberAt groupsAt lastByte followed above bytesOf groupsOf rowsFrom put someRow somePair lengthsBad countBad valueBad sameId rangesMeet apart soundRows checked freshRows subgroup orderBy rowOf orderIn order positiveAt entryAt treesBy treesAt directionOf requestOf someEntry accepted refineRows explodedRows refined engineReply engineAfter engineReplies engineEnd engineStart
 cases-right = refl
