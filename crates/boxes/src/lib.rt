@@ -11,18 +11,18 @@ pub struct LValue(pub u64);
 pub struct RValue(pub u64);
 
 impl LValue {
-    pub fn at_most(self, other: LValue) -> bool
-        ensures { λ t. ⌜ t ≡ atMost (self .0) (other .0) ⌝ }
+    pub fn at_most(self, l: LValue) -> bool
+        ensures { λ t. ⌜ t ≡ atMost (self .0) (l .0) ⌝ }
     {
-        self.0 <= other.0
+        self.0 <= l.0
     }
 }
 
 impl RValue {
-    pub fn at_most(self, other: RValue) -> bool
-        ensures { λ t. ⌜ t ≡ atMost (self .0) (other .0) ⌝ }
+    pub fn at_most(self, r: RValue) -> bool
+        ensures { λ t. ⌜ t ≡ atMost (self .0) (r .0) ⌝ }
     {
-        self.0 <= other.0
+        self.0 <= r.0
     }
 }
 
