@@ -1,6 +1,7 @@
 // The test program: cases that are run, with their output held to the file stdout.
 mod boxes_cases;
 mod numbers;
+mod requests;
 mod show;
 mod tables;
 
@@ -8,4 +9,5 @@ fn main() {
     numbers::all();
     boxes_cases::all();
     tables::all();
+    requests::all();
 }

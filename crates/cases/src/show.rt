@@ -43,6 +43,15 @@ fn value(n: u32) {
     number(n);
 }
 
+// A row as a line: id, l, r, quota.
+pub fn row(id: u32, l: u32, r: u32, q: u32) {
+    value(id);
+    value(l);
+    value(r);
+    value(q);
+    text(b"\n");
+}
+
 fn short_column(s: &[u32]) {
     let mut i = 0;
     while i < s.len() {
