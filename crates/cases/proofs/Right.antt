@@ -11,10 +11,12 @@ use Rattle.request.specs.Entries.{someEntry}
 use Rattle.request.specs.Reading.{positiveAt, entryAt, treesBy, treesAt, directionOf, requestOf}
 use Rattle.request.specs.Acceptance.{accepted}
 use Rattle.refine.specs.Refine.{refineRows, explodedRows, refined}
+use Rattle.grant.specs.Grant.{grantBad, checkedGrant, grantAt, grantsFrom, grantsOf, grantBytes, grantsBytes}
+use Rattle.grant.specs.Decision.{windows, appliesTo, isOpen, runs, hasEnded, yetToBegin, those, someOpen, greatestLast, leastFirst, tried, dated, questionBad, decided}
 use Rattle.ledger.specs.Calls.{engineReply, engineAfter, engineReplies, engineEnd, engineStart}
 use Rattle.cases.specs.Cases.{computed, stated}
 use Rattle.cases.specs.Table.{cases, figure9b, figure9bRows, beside, upright, inverted}
 
 pub cases-right : map computed cases ≡ map stated cases
-unfolding cases figure9b figure9bRows beside upright inverted numberAt groupsAt lastByte followed above bytesOf groupsOf rowsFrom put someRow somePair lengthsBad countBad valueBad sameId rangesMeet apart soundRows checked freshRows subgroup orderBy rowOf orderIn order positiveAt entryAt treesBy treesAt directionOf requestOf someEntry accepted refineRows explodedRows refined engineReply engineAfter engineReplies engineEnd engineStart
+unfolding cases figure9b figure9bRows beside upright inverted numberAt groupsAt lastByte followed above bytesOf groupsOf rowsFrom put someRow somePair lengthsBad countBad valueBad sameId rangesMeet apart soundRows checked freshRows subgroup orderBy rowOf orderIn order grantBad checkedGrant grantAt grantsFrom grantsOf grantBytes grantsBytes windows appliesTo isOpen runs hasEnded yetToBegin those someOpen greatestLast leastFirst tried dated questionBad decided positiveAt entryAt treesBy treesAt directionOf requestOf someEntry accepted refineRows explodedRows refined engineReply engineAfter engineReplies engineEnd engineStart
 cases-right = refl

@@ -7,6 +7,8 @@ use Rattle.number.specs.Number.{Number, found, numberAt, bytesOf}
 use Rattle.table.specs.Columns.{Row, Columns, columns, rows, put, counted, afterwards}
 use Rattle.table.specs.Fresh.{freshRows}
 use Rattle.table.specs.Order.{Order, order}
+use Rattle.grant.specs.Grant.{Grant, grantsBytes}
+use Rattle.grant.specs.Decision.{Decision, decided}
 use Rattle.ledger.specs.Calls.{Call, refine, Reply, refineSays, engineStart, engineReplies, engineEnd, rowsIn}
 
 pub data Case : Type 0 where
@@ -18,6 +20,8 @@ pub data Case : Type 0 where
   grown : (id quota : ℕ) (requests : List (List ℕ)) → List (Answer ℕ) → List Row → Case
   -- two groups of a table of these rows, and how they stand to each other
   compared : List Row → ℕ → ℕ → Answer Order → Case
+  -- a feature, a pass (l, r), a day and grants, and what is decided
+  asked : (feature l r day : ℕ) → List Grant → Answer Decision → Case
 
 -- what the definitions say, and what the document says
 pub data Outcome : Type 0 where
@@ -29,6 +33,8 @@ pub data Outcome : Type 0 where
   run : List Reply → List Row → Outcome
   -- the order of two groups
   standing : Answer Order → Outcome
+  -- the decision on the grants' stored bytes
+  decision : Answer Decision → Outcome
 
 -- columns of one row that nobody wrote yet, and columns of just these rows
 abbrev pub blank : Columns
@@ -55,9 +61,11 @@ computed (grown id quota requests said after) =
     run (engineReplies (engineStart blank256 id quota) (map (λ q. refine (stream q)) requests))
     (rowsIn (engineEnd (engineStart blank256 id quota) (map (λ q. refine (stream q)) requests)))
 computed (compared t a b said) = standing (order (columnsOf t) (length t) a b)
+computed (asked feature l r day gs said) = decision (decided feature l r day (grantsBytes gs))
 
 abbrev pub stated : Case → Outcome
 stated (stored value bytes) = codec bytes (found value (length bytes))
 stated (made group quota after) = table (answer 1) (after ∷ [])
 stated (grown id quota requests said after) = run (map refineSays said) after
 stated (compared t a b said) = standing said
+stated (asked feature l r day gs said) = decision said

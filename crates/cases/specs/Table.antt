@@ -4,7 +4,9 @@ use mathlib.Core.List.{List, [], _∷_}
 use Rattle.rules.specs.Answers.{answer, refused}
 use Rattle.table.specs.Columns.{Row}
 use Rattle.table.specs.Order.{same, first, second, incomparable}
-use Rattle.cases.specs.Cases.{Case, stored, made, grown, compared, row}
+use Rattle.grant.specs.Grant.{grant}
+use Rattle.grant.specs.Decision.{onOpen, onUntil, ended, ahead, never}
+use Rattle.cases.specs.Cases.{Case, stored, made, grown, compared, asked, row}
 
 -- groups 1 and 2 side by side, 1 below 2, and 2 below 1
 unfoldable pub beside : List Row
@@ -59,4 +61,10 @@ cases =
     ∷ compared upright 1 1 (answer same)
     ∷ compared upright 3 1 (refused 20)
     ∷ compared upright 1 3 (refused 20)
+    ∷ asked 7 1 1 9 (grant 7 2 2 10 20 ∷ []) (answer (ahead 10))
+    ∷ asked 7 1 1 10 (grant 7 2 2 10 20 ∷ []) (answer (onUntil 20))
+    ∷ asked 7 1 1 20 (grant 7 2 2 10 20 ∷ []) (answer (onUntil 20))
+    ∷ asked 7 1 1 21 (grant 7 2 2 10 20 ∷ []) (answer (ended 20))
+    ∷ asked 7 1 1 10 (grant 7 2 2 10 0 ∷ []) (answer onOpen)
+    ∷ asked 7 2 1 10 (grant 7 1 2 10 20 ∷ []) (answer never)
     ∷ []

@@ -1,5 +1,6 @@
 // The test program: cases that are run, with their output held to the file stdout.
 mod boxes_cases;
+mod decisions;
 mod numbers;
 mod requests;
 mod show;
@@ -10,4 +11,5 @@ fn main() {
     boxes_cases::all();
     tables::all();
     requests::all();
+    decisions::all();
 }

@@ -6,5 +6,6 @@ pub mod Answering
 pub mod Held
 pub mod OneCall
 pub mod Starting
+mod Deciding
 pub mod Whole
 pub mod Figures

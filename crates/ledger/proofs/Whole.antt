@@ -1,23 +1,30 @@
 -- Demand 3, for every list of calls from a fresh table.
-use mathlib.Core.Path.{_≡_, refl, ap₂, sym, _∙_}
+use mathlib.Core.Path.{_≡_, refl, ap, ap₂, sym, _∙_}
 use mathlib.Core.Bool.{false}
 use mathlib.Core.List.{List, [], _∷_, _++_}
 use Prim.Native.Nat.{ℕ, _≤_}
+use native.Mathlib.Omega.{arith}
 use borrow.Author.Tests.{leb-true}
+use Rattle.rules.specs.Limits.{greatest}
 use Rattle.rules.proofs.Bools.{or-none}
-use Rattle.request.specs.Entries.{count}
+use Rattle.request.specs.Entries.{oneAt, count}
 use Rattle.request.proofs.Sums.{same-length}
 use Rattle.table.specs.Columns.{Columns}
 use Rattle.table.specs.Order.{subgroup}
 use Rattle.table.proofs.Rows.{rows-length}
 use Rattle.refine.specs.Refine.{groupsOf, lOf, rOf}
 use Rattle.refine.proofs.After.{length-rows}
+use Rattle.refine.proofs.Lookup.{l-row, r-row}
+use Rattle.refine.proofs.Soundness.{sound-ids}
+use Rattle.grant.specs.Grant.{Grant}
 use Rattle.ledger.specs.Ledger.{Ledger}
 use Rattle.ledger.specs.Calls.{Call, ledgerAfter, ledgerReplies, ledgerEnd, explodes, explodedIn, Table, rowsIn, engineAfter, engineReplies, engineEnd, engineStart}
-use Rattle.ledger.specs.Demand.{FreshAccepted, ledgerStart, ledger, engine, tableRows, Noted, Demand}
+use Rattle.ledger.specs.Decisions.{Held}
+use Rattle.ledger.specs.Demand.{FreshAccepted, ledgerStart, ledger, engine, tableRows, Noted, StoredAs, Demand}
 use Rattle.ledger.proofs.Agree.{Meets}
 use Rattle.ledger.proofs.OneCall.{orders-alike, says-alike, meets-after, Unmoved, stays}
 use Rattle.ledger.proofs.Starting.{meets-fresh}
+use Rattle.ledger.proofs.Deciding.{each-to, Alike, decided-alike}
 
 -- the whole list
 meets-end : (s : Table) (g : Ledger) → Meets s g → (ks : List Call) → Meets (engineEnd s ks) (ledgerEnd g ks)
@@ -76,6 +83,36 @@ module _ (c : Columns) (id quota : ℕ) (f : FreshAccepted c id quota) where
       let m′ = last n′ in
       rw (← (m .l-last), ← (m .r-last), ← (m′ .l-last), ← (m′ .r-last)) (sym (meets ks .agree .ordered x y (m .there) (m′ .there)))
 
+  -- noted numbers are numbers of a sound table
+  noted-some : {ks : List Call} {x l r : ℕ} → Noted c id quota ks x l r → (1 ≤ l) × (1 ≤ r) × (l ≤ greatest) × (r ≤ greatest)
+  noted-some {ks} {x} n =
+      let m = last n in
+      let t = tableRows c id quota ks in
+      let a = meets ks .agree in
+      let row = sound-ids t (a .sound) .row x (rw (a .table (oneAt x)) (m .there)) in
+      let el = sym (l-row x t) ∙ m .l-last in
+      let er = sym (r-row x t) ∙ m .r-last in
+      omega (arith, row .l-some, row .r-some, row .q-some, row .l-end, row .r-end, el, er)
+
+  stored-alike : {ks : List Call} {x l r : ℕ} → Noted c id quota ks x l r → (h : Held) (g : Grant) → StoredAs c id quota ks h g
+      → Alike (ledger c id quota ks .order) x l r h g
+  unfolding subgroup
+  stored-alike n h g s =
+      let b = noted-some (s .noted) in
+      record {
+        stored = s .stored;
+        l-some = b .0;
+        r-some = b .1;
+        fits = record {
+          in-feature = rw (ap (λ (k : Grant). k .feature) (s .stored)) (s .feature-32);
+          in-l = b .2;
+          in-r = b .3;
+          in-first = rw (ap (λ (k : Grant). k .first) (s .stored)) (s .first-32);
+          in-last = rw (ap (λ (k : Grant). k .last) (s .stored)) (s .last-32);
+        };
+        agrees = noted-order n (s .noted);
+      }
+
   pub demand-3 : (ks : List Call) → Demand c id quota ks
   demand-3 ks = record {
     answers = replies-alike (engineStart c id quota) (ledgerStart c id quota) (meets-fresh c id quota f) ks;
@@ -85,4 +122,7 @@ module _ (c : Columns) (id quota : ℕ) (f : FreshAccepted c id quota) where
     numbers = λ x h. meets ks .agree .numbers x (leb-true 1 (count x (ledger c id quota ks .groups)) h);
     orders = orders-alike (meets ks);
     kept = λ x l r n. (last n .l-last, last n .r-last);
+    decisions = λ x l r n hs gs all feature day.
+        let b = noted-some n in
+        decided-alike (ledger c id quota ks) x l r (b .0) (b .1) hs gs (each-to (stored-alike n) hs gs all) feature day;
   }

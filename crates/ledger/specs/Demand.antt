@@ -1,7 +1,7 @@
 -- Demand 3: a single claim about the whole list (document 01, "The ledger"). `demand-3` of proofs/Whole.antt proves it after every accepted fresh, for every list.
 -- It shuts out, among others: columns that never change (the groups, and the answers to later calls, are not the ledger's);
 -- an exploded group's neighbour renumbered (`numbers`, `kept`); numbers right for the first request only (`numbers` after any list);
--- a stale order, by an older table or by u alone (`orders`); an engine that refuses everything, or 23 and 24 where quotas and rows suffice (`answers`).
+-- a stale order, by an older table or by u alone (`orders`); passes in the field that a later request upsets (`decisions`); an engine that refuses everything, or 23 and 24 where quotas and rows suffice (`answers`).
 use Prim.Native.Nat.{ℕ, _≤_}
 use mathlib.Core.Path.{_≡_}
 use mathlib.Core.Bool.{true, false}
@@ -14,7 +14,10 @@ use Rattle.table.specs.Columns.{Row, Columns, counted}
 use Rattle.table.specs.Fresh.{freshRows}
 use Rattle.table.specs.Order as table
 use Rattle.refine.specs.Refine.{groupsOf, lOf, rOf}
+use Rattle.grant.specs.Grant.{Grant, grant, grantsBytes}
+use Rattle.grant.specs.Decision.{decided}
 use Rattle.ledger.specs.Ledger.{Ledger, freshLedger, ledgerOrder, freshL, freshR}
+use Rattle.ledger.specs.Decisions.{Held, ledgerDecided, Each}
 use Rattle.ledger.specs.Calls.{Call, ledgerReplies, ledgerEnd, explodedIn, Table, rowsIn, engineReplies, engineEnd, engineStart}
 
 -- fresh was accepted: it answered the count 1. A quota is a 32-bit number
@@ -47,6 +50,14 @@ module _ (c : Columns) (id quota : ℕ) where
     pub r-is : r ≡ rOf x (tableRows earlier)
     pub quiet : explodedIn x (ledger earlier) later ≡ false
 
+  -- g is the held grant h as it is stored, with numbers of its group that were noted at a point of its own. Feature and days are any 32-bit numbers
+  pub record StoredAs (ks : List Call) (h : Held) (g : Grant) : Type 0 where
+    pub stored : g ≡ grant (h .feature) (g .l) (g .r) (h .first) (h .last)
+    pub noted : Noted ks (h .group) (g .l) (g .r)
+    pub feature-32 : h .feature ≤ greatest
+    pub first-32 : h .first ≤ greatest
+    pub last-32 : h .last ≤ greatest
+
   pub record Demand (ks : List Call) : Type 0 where
     -- each call has exactly the ledger's answer
     pub answers : engineReplies (engineStart c id quota) ks ≡ ledgerReplies ledgerStart ks
@@ -59,3 +70,7 @@ module _ (c : Columns) (id quota : ℕ) where
     pub orders : (a b : ℕ) → table.order (engine ks .columns) (engine ks .count) a b ≡ ledgerOrder (ledger ks) a b
     -- a group that no accepted request has exploded since has the numbers it had then: since it was made, or since any later point
     pub kept : (x l r : ℕ) → Noted ks x l r → (lOf x (tableRows ks) ≡ l) × (rOf x (tableRows ks) ≡ r)
+    -- numbers noted for a pass and for grants, where no accepted request explodes those groups later: for every feature and day
+    -- decide's whole answer, refusals included, is the decision that the ledger's last order gives
+    pub decisions : (x l r : ℕ) → Noted ks x l r → (hs : List Held) (gs : List Grant) → Each (StoredAs ks) hs gs → (feature day : ℕ)
+        → decided feature l r day (grantsBytes gs) ≡ ledgerDecided (ledger ks) feature x day hs

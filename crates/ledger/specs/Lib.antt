@@ -1,3 +1,4 @@
 pub mod Ledger
 pub mod Calls
+pub mod Decisions
 pub mod Demand

@@ -1,0 +1,4 @@
+pub mod Listing
+mod Tallies
+pub mod Outcome
+pub mod Stored

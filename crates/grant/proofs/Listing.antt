@@ -1,0 +1,122 @@
+-- The laws of a grant list: where a grant ends, that the list is read to the bytes' end, and that none of its grants is bad.
+use mathlib.Core.Path.{_≡_, refl, ap, sym, _∙_}
+use mathlib.Core.Bool.{Bool, true, false}
+use mathlib.Core.List.{List, [], _∷_}
+use Prim.Native.Nat.{ℕ, zero, suc, _+_, _-_, _<_, _≤_}
+use native.Mathlib.Omega.{arith}
+use lib.ListN.{length}
+use borrow.Author.Tests.{le-leb, lt-leb}
+use Rattle.rules.specs.Answers.{Answer, answer, refused, then}
+use Rattle.rules.proofs.Answers.{same-answer, never-refused, peel}
+use Rattle.rules.proofs.Cases.{by-lt}
+use Rattle.number.specs.Number.{Number, numberAt}
+use Rattle.number.proofs.Laws.{number-ends}
+use Rattle.grant.specs.Grant.{Grant, GrantRead, grantBad, checkedGrant, grantAt, grantsFrom, grantsOf, someBad}
+
+module _ {A B : Type 0} where
+  -- an answer that came through another
+  pub record Through (a : Answer A) (f : A → Answer B) (b : B) : Type 0 where
+    pub value : A
+    pub first : a ≡ answer value
+    pub rest : f value ≡ answer b
+
+  pub through : (a : Answer A) (f : A → Answer B) {b : B} → then a f ≡ answer b → Through a f b
+  through (answer x) f e = record { value = x; first = refl; rest = e }
+  through (refused n) f e = never-refused e
+
+  pub then-same : (a : Answer A) (f g : A → Answer B) → ((x : A) → a ≡ answer x → f x ≡ g x) → then a f ≡ then a g
+  then-same (answer x) f g h = h x refl
+  then-same (refused n) f g h = refl
+
+-- a grant ends after the position where it starts, and within the bytes, and is not bad
+pub record GrantStands (bytes : List ℕ) (at : ℕ) (g : GrantRead) : Type 0 where
+  pub starts : at < g .next
+  pub ends : g .next ≤ length bytes
+  pub good : grantBad (g .grant) ≡ false
+
+pub grant-stands : (bytes : List ℕ) (at : ℕ) {g : GrantRead} → grantAt bytes at ≡ answer g → GrantStands bytes at g
+unfolding grantAt checkedGrant
+grant-stands bytes at e =
+    let a = through (numberAt bytes at) _ e in
+    let b = through (numberAt bytes (a .value .next)) _ (a .rest) in
+    let c = through (numberAt bytes (b .value .next)) _ (b .rest) in
+    let d = through (numberAt bytes (c .value .next)) _ (c .rest) in
+    let l = through (numberAt bytes (d .value .next)) _ (d .rest) in
+    let p = peel (grantBad _) 14 _ (l .rest) in
+    let ea = number-ends bytes at (a .first) in
+    let eb = number-ends bytes (a .value .next) (b .first) in
+    let ec = number-ends bytes (b .value .next) (c .first) in
+    let ed = number-ends bytes (c .value .next) (d .first) in
+    let el = number-ends bytes (d .value .next) (l .first) in
+    let g = same-answer (p .1) in
+    let n = ap (λ (r : GrantRead). r .next) g in
+    record { starts = omega arith; ends = omega arith; good = ap (λ (r : GrantRead). grantBad (r .grant)) (sym g) ∙ p .0 }
+
+-- a grant in front of others
+abbrev pub inFront : GrantRead → Answer (List Grant) → Answer (List Grant)
+inFront g rest = then rest λ gs. answer (g .grant ∷ gs)
+
+from-end : (n : ℕ) (bytes : List ℕ) (at : ℕ) → length bytes ≤ at → grantsFrom n bytes at ≡ answer []
+unfolding grantsFrom
+from-end zero bytes at h = refl
+from-end (suc n) bytes at h = rw (le-leb _ _ h)
+
+from-more : (n : ℕ) (bytes : List ℕ) (at : ℕ) → at < length bytes
+    → grantsFrom (suc n) bytes at ≡ then (grantAt bytes at) (λ (g : GrantRead). inFront g (grantsFrom n bytes (g .next)))
+unfolding grantsFrom
+from-more n bytes at h = rw (lt-leb _ _ h)
+
+-- a count that the bytes do not reach does not matter
+from-same : (n m : ℕ) (bytes : List ℕ) (at : ℕ) → length bytes ≤ at + n → length bytes ≤ at + m → grantsFrom n bytes at ≡ grantsFrom m bytes at
+from-same zero m bytes at h k = from-end 0 bytes at (omega arith) ∙ sym (from-end m bytes at (omega arith))
+from-same (suc n) zero bytes at h k = from-end (suc n) bytes at (omega arith) ∙ sym (from-end 0 bytes at (omega arith))
+from-same (suc n) (suc m) bytes at h k =
+    by-lt at (length bytes)
+    (λ l. from-more n bytes at l
+    ∙ then-same (grantAt bytes at) _ _ (λ g e.
+    let s = grant-stands bytes at e in
+    ap (inFront g) (from-same n m bytes (g .next) (omega (arith, s .starts)) (omega (arith, s .starts))))
+    ∙ sym (from-more m bytes at l))
+    (λ l. from-end (suc n) bytes at l ∙ sym (from-end (suc m) bytes at l))
+
+-- the grants from a position to the bytes' end
+unfoldable pub grantsAt : List ℕ → ℕ → Answer (List Grant)
+grantsAt bytes at = grantsFrom (length bytes - at) bytes at
+
+-- before the bytes' end there is a grant, and then the rest from its next position
+pub grants-unfold : (bytes : List ℕ) (at : ℕ) → at < length bytes
+    → grantsAt bytes at ≡ then (grantAt bytes at) (λ (g : GrantRead). inFront g (grantsAt bytes (g .next)))
+unfolding grantsAt
+grants-unfold bytes at h =
+    let n = length bytes - at - 1 in
+    let k : length bytes - at ≡ suc n = omega arith in
+    ap (λ (m : ℕ). grantsFrom m bytes at) k ∙ from-more n bytes at h
+    ∙ then-same (grantAt bytes at) _ _ (λ g e.
+    let s = grant-stands bytes at e in
+    ap (inFront g) (from-same n (length bytes - g .next) bytes (g .next) (omega (arith, s .starts)) (omega (arith, s .starts))))
+
+pub grants-done : (bytes : List ℕ) (at : ℕ) → length bytes ≤ at → grantsAt bytes at ≡ answer []
+unfolding grantsAt
+grants-done bytes at h = from-end (length bytes - at) bytes at h
+
+pub grants-all : (bytes : List ℕ) → grantsAt bytes 0 ≡ grantsOf bytes
+unfolding grantsAt grantsOf
+grants-all bytes = let k : length bytes - 0 ≡ length bytes = omega arith in ap (λ (m : ℕ). grantsFrom m bytes 0) k
+
+from-good : (n : ℕ) (bytes : List ℕ) (at : ℕ) {gs : List Grant} → grantsFrom n bytes at ≡ answer gs → someBad gs ≡ false
+unfolding grantsFrom someBad
+from-good zero bytes at e = ap someBad (sym (same-answer e))
+from-good (suc n) bytes at e =
+    by-lt at (length bytes)
+    (λ l.
+    let a = through (grantAt bytes at) _ (sym (from-more n bytes at l) ∙ e) in
+    let b = through (grantsFrom n bytes (a .value .next)) _ (a .rest) in
+    let s = grant-stands bytes at (a .first) in
+    let t = from-good n bytes (a .value .next) (b .first) in
+    ap someBad (sym (same-answer (b .rest))) ∙ rw (s .good) t)
+    (λ l. ap someBad (sym (same-answer (sym (from-end (suc n) bytes at l) ∙ e))))
+
+-- no grant of a list that reads in is bad
+pub grants-good : (bytes : List ℕ) {gs : List Grant} → grantsOf bytes ≡ answer gs → someBad gs ≡ false
+unfolding grantsOf
+grants-good bytes e = from-good (length bytes) bytes 0 e

@@ -1,0 +1,217 @@
+-- One pass over the grants keeps what the decision asks.
+use mathlib.Core.Path.{_≡_, refl, ap, sym, _∙_}
+use mathlib.Core.Bool.{Bool, true, false, cond, not, _&&_, _||_}
+use mathlib.Core.List.{List, [], _∷_}
+use Prim.Native.Nat.{ℕ, zero, suc, min, max, _<_, _≤_}
+use native.Mathlib.Omega.{arith}
+use lib.Dec.{eqb, leb, ltb}
+use borrow.Author.Tests.{eq-eqb, ne-eqb, lt-ltb, le-ltb, le-leb, lt-leb, eqb-false, ltb-true, ltb-false, not-true}
+use Rattle.rules.proofs.Cases.{by-lt, by-eq}
+use Rattle.rules.proofs.Bools.{or-none, and-both}
+use Rattle.grant.specs.Grant.{Grant, grantBad, someBad}
+use Rattle.grant.specs.Decision.{Window, window, windows, isOpen, runs, hasEnded, yetToBegin, those, someOpen, greatestLast, leastFirst, Decision, onOpen, onUntil, ended, ahead, tried, dated, appliesTo}
+use Rattle.grant.specs.Tally.{tally, earlier, countIn, weigh, weighAll, told}
+use Rattle.grant.specs.declared.Tally.{Tally}
+
+-- ## Tests on windows
+
+-- a window of a good grant: it has no end, or it ends no earlier than it begins
+abbrev pub Right : Window → Type 0
+Right w = (w .last ≡ 0 → ⊥) → w .first ≤ w .last
+
+-- all windows pass a test
+abbrev All : (Window → Bool) → List Window → Type 0
+All p [] = Unit {0}
+All p (w ∷ ws) = (p w ≡ true) × All p ws
+
+those-yes : (p : Window → Bool) (w : Window) (ws : List Window) → p w ≡ true → those p (w ∷ ws) ≡ w ∷ those p ws
+unfolding those
+those-yes p w ws e = rw e
+
+those-no : (p : Window → Bool) (w : Window) (ws : List Window) → p w ≡ false → those p (w ∷ ws) ≡ those p ws
+unfolding those
+those-no p w ws e = rw e
+
+those-all : (p : Window → Bool) (ws : List Window) → All p (those p ws)
+unfolding those
+those-all p [] = tt
+those-all p (w ∷ ws) = go (p w) refl (those-all p ws)
+  where
+    go : (b : Bool) → p w ≡ b → All p (those p ws) → All p (cond b (w ∷ those p ws) (those p ws))
+    go true e rest = (e, rest)
+    go false e rest = rest
+
+-- ## A window counted in
+
+-- the least of a day and the first days of windows, where 0 is none yet
+unfoldable soonest : ℕ → List Window → ℕ
+soonest day [] = day
+soonest day (w ∷ ws) = soonest (earlier day (w .first)) ws
+
+abbrev summary : Tally → (running over coming : List Window) → Tally
+summary t running over coming =
+    tally (t .endless || someOpen running) (greatestLast (t .on) running) (greatestLast (t .over) over) (soonest (t .coming) coming)
+
+unfoldable pub counted : ℕ → Tally → List Window → Tally
+counted day t [] = t
+counted day t (w ∷ ws) = counted day (countIn t (w .first) (w .last) day) ws
+
+abbrev kept : ℕ → Tally → List Window → Tally
+kept day t ws = summary t (those (runs day) ws) (those (hasEnded day) ws) (those (yetToBegin day) ws)
+
+pub same-tally : {x x′ : Bool} {a a′ b b′ d d′ : ℕ} → x ≡ x′ → a ≡ a′ → b ≡ b′ → d ≡ d′ → tally x a b d ≡ tally x′ a′ b′ d′
+same-tally e f g h = cc
+
+or-false : (b : Bool) → (b || false) ≡ b
+or-false true = refl
+or-false false = refl
+
+or-true : (b c : Bool) → (b || (true || c)) ≡ true
+or-true true c = refl
+or-true false c = refl
+
+module _ (day : ℕ) (t : Tally) (w : Window) (ws : List Window) (right : Right w) where
+  step-coming : day < w .first → kept day (countIn t (w .first) (w .last) day) ws ≡ kept day t (w ∷ ws)
+  unfolding countIn soonest runs hasEnded yetToBegin isOpen
+  step-coming h =
+      let no : runs day w ≡ false = rw (lt-leb _ _ h) in
+      let notOver : hasEnded day w ≡ false = by-eq (w .last) 0 (λ e. rw (eq-eqb (w .last) 0 e)) (λ e. rw (ne-eqb (w .last) 0 e) (le-ltb (w .last) day (omega (arith, right e)))) in
+      let yes : yetToBegin day w ≡ true = lt-ltb _ _ h in
+      rw (those-no (runs day) w ws no, those-no (hasEnded day) w ws notOver, those-yes (yetToBegin day) w ws yes, lt-ltb _ _ h)
+
+  step-endless : w .first ≤ day → w .last ≡ 0 → kept day (countIn t (w .first) (w .last) day) ws ≡ kept day t (w ∷ ws)
+  unfolding countIn someOpen greatestLast runs hasEnded yetToBegin isOpen
+  step-endless h z =
+      let e : eqb (w .last) 0 ≡ true = eq-eqb _ _ z in
+      let m : max (t .on) (w .last) ≡ t .on = omega arith in
+      let yes : runs day w ≡ true = rw (le-leb _ _ h, e) in
+      let notOver : hasEnded day w ≡ false = rw e in
+      let no : yetToBegin day w ≡ false = le-ltb _ _ h in
+      rw (those-yes (runs day) w ws yes, those-no (hasEnded day) w ws notOver, those-no (yetToBegin day) w ws no, le-ltb _ _ h, e)
+      (same-tally (sym (or-true (t .endless) (someOpen (those (runs day) ws)))) (ap (λ (n : ℕ). greatestLast n (those (runs day) ws)) (sym m)) refl refl)
+
+  step-over : w .first ≤ day → (w .last ≡ 0 → ⊥) → w .last < day → kept day (countIn t (w .first) (w .last) day) ws ≡ kept day t (w ∷ ws)
+  unfolding countIn greatestLast runs hasEnded yetToBegin isOpen
+  step-over h z l =
+      let e : eqb (w .last) 0 ≡ false = ne-eqb _ _ z in
+      let notOn : runs day w ≡ false = rw (le-leb _ _ h, e) (lt-leb _ _ l) in
+      let yes : hasEnded day w ≡ true = rw e (lt-ltb _ _ l) in
+      let no : yetToBegin day w ≡ false = le-ltb _ _ h in
+      rw (those-no (runs day) w ws notOn, those-yes (hasEnded day) w ws yes, those-no (yetToBegin day) w ws no, le-ltb _ _ h, e, lt-ltb _ _ l)
+
+  step-on : w .first ≤ day → (w .last ≡ 0 → ⊥) → day ≤ w .last → kept day (countIn t (w .first) (w .last) day) ws ≡ kept day t (w ∷ ws)
+  unfolding countIn someOpen greatestLast runs hasEnded yetToBegin isOpen
+  step-on h z l =
+      let e : eqb (w .last) 0 ≡ false = ne-eqb _ _ z in
+      let yes : runs day w ≡ true = rw (le-leb _ _ h, e) (le-leb _ _ l) in
+      let notOver : hasEnded day w ≡ false = rw e (le-ltb _ _ l) in
+      let no : yetToBegin day w ≡ false = le-ltb _ _ h in
+      rw (those-yes (runs day) w ws yes, those-no (hasEnded day) w ws notOver, those-no (yetToBegin day) w ws no, le-ltb _ _ h, e, le-ltb _ _ l)
+
+  step : kept day (countIn t (w .first) (w .last) day) ws ≡ kept day t (w ∷ ws)
+  step =
+      by-lt day (w .first) step-coming
+      (λ h. by-eq (w .last) 0 (step-endless h) (λ z. by-lt (w .last) day (step-over h z) (step-on h z)))
+
+abbrev pub AllRight : List Window → Type 0
+AllRight [] = Unit {0}
+AllRight (w ∷ ws) = Right w × AllRight ws
+
+counted-kept : (day : ℕ) (t : Tally) (ws : List Window) → AllRight ws → counted day t ws ≡ kept day t ws
+unfolding counted those someOpen greatestLast soonest
+counted-kept day t [] r = same-tally (sym (or-false (t .endless))) refl refl refl
+counted-kept day t (w ∷ ws) r = counted-kept day (countIn t (w .first) (w .last) day) ws (r .1) ∙ step day t w ws (r .0)
+
+-- ## The end
+
+greatest-least : (a : ℕ) (ws : List Window) → a ≤ greatestLast a ws
+unfolding greatestLast
+greatest-least a [] = omega arith
+greatest-least a (w ∷ ws) = omega (arith, greatest-least (max a (w .last)) ws)
+
+soonest-least : (day a : ℕ) (ws : List Window) → 1 ≤ a → All (yetToBegin day) ws → (soonest a ws ≡ leastFirst a ws) × (1 ≤ leastFirst a ws)
+unfolding soonest leastFirst yetToBegin earlier
+soonest-least day a [] h all = (refl, h)
+soonest-least day a (w ∷ ws) h all =
+    let f = ltb-true day (w .first) (all .0) in
+    let n : eqb a 0 ≡ false = ne-eqb a 0 (λ e. omega (arith, h, e)) in
+    let m : 1 ≤ min a (w .first) = omega (arith, h, f) in
+    let i = soonest-least day (min a (w .first)) ws m (all .1) in
+    (rw n (i .0), i .1)
+
+abbrev pub nothing : Tally
+nothing = tally false 0 0 0
+
+told-tried : (day : ℕ) (running over coming : List Window) → All (hasEnded day) over → All (yetToBegin day) coming
+    → told (summary nothing running over coming) ≡ tried running over coming
+unfolding told tried someOpen isOpen greatestLast soonest hasEnded yetToBegin earlier
+told-tried day (w ∷ ws) over coming ao ac = go (someOpen (w ∷ ws)) refl
+  where
+    go : (b : Bool) → someOpen (w ∷ ws) ≡ b
+        → told (tally b (greatestLast 0 (w ∷ ws)) (greatestLast 0 over) (soonest 0 coming)) ≡ cond b onOpen (onUntil (greatestLast (w .last) ws))
+    go true e = refl
+    go false e =
+        let o = eqb-false (w .last) 0 (or-none (eqb (w .last) 0) (someOpen ws) e .0) in
+        let m : max 0 (w .last) ≡ w .last = omega arith in
+        let k = greatest-least (w .last) ws in
+        rw (m, lt-ltb 0 (greatestLast (w .last) ws) (omega arith))
+told-tried day [] (w ∷ ws) coming ao ac = last
+  where
+    last : told (tally false 0 (greatestLast 0 (w ∷ ws)) (soonest 0 coming)) ≡ ended (greatestLast (w .last) ws)
+    last =
+        let o = eqb-false (w .last) 0 (not-true _ (and-both (not (eqb (w .last) 0)) _ (ao .0) .0)) in
+        let m : max 0 (w .last) ≡ w .last = omega arith in
+        let k = greatest-least (w .last) ws in
+        rw (m, lt-ltb 0 (greatestLast (w .last) ws) (omega arith))
+told-tried day [] [] (w ∷ ws) ao ac = first
+  where
+    first : told (tally false 0 0 (soonest 0 (w ∷ ws))) ≡ ahead (leastFirst (w .first) ws)
+    first =
+        let f = ltb-true day (w .first) (ac .0) in
+        let i = soonest-least day (w .first) ws (omega arith) (ac .1) in
+        rw (i .0, lt-ltb 0 (leastFirst (w .first) ws) (i .1))
+told-tried day [] [] [] ao ac = refl
+
+-- the windows' tally says what the windows say
+pub tally-dated : (day : ℕ) (ws : List Window) → AllRight ws → told (counted day nothing ws) ≡ dated day ws
+unfolding dated
+tally-dated day ws r =
+    ap told (counted-kept day nothing ws r)
+    ∙ told-tried day (those (runs day) ws) (those (hasEnded day) ws) (those (yetToBegin day) ws) (those-all (hasEnded day) ws) (those-all (yetToBegin day) ws)
+
+-- ## Grants
+
+bad-right : (g : Grant) → grantBad g ≡ false → Right (window g)
+unfolding grantBad
+bad-right g e z =
+    let a = or-none (eqb (g .feature) 0) _ e in
+    let b = or-none (eqb (g .l) 0) _ (a .1) in
+    let c = or-none (eqb (g .r) 0) _ (b .1) in
+    let d = or-none (eqb (g .first) 0) _ (c .1) in
+    ltb-false _ _ (rw (ne-eqb _ _ z) at (d .1))
+
+windows-right : (applies : Grant → Bool) (gs : List Grant) → someBad gs ≡ false → AllRight (windows window applies gs)
+unfolding windows someBad
+windows-right applies [] e = tt
+windows-right applies (g ∷ gs) e = let h = or-none (grantBad g) (someBad gs) e in go (applies g) (bad-right g (h .0)) (windows-right applies gs (h .1))
+  where
+    go : (b : Bool) → Right (window g) → AllRight (windows window applies gs) → AllRight (cond b (window g ∷ windows window applies gs) (windows window applies gs))
+    go true one rest = (one, rest)
+    go false one rest = rest
+
+weigh-counted : (feature l r day : ℕ) (t : Tally) (gs : List Grant) → weighAll feature l r day t gs ≡ counted day t (windows window (appliesTo feature l r) gs)
+unfolding weighAll windows counted weigh
+weigh-counted feature l r day t [] = refl
+weigh-counted feature l r day t (g ∷ gs) = go (appliesTo feature l r g) (λ s. weigh-counted feature l r day s gs)
+  where
+    go : (b : Bool) → ((s : Tally) → weighAll feature l r day s gs ≡ counted day s (windows window (appliesTo feature l r) gs))
+        → weighAll feature l r day (cond b (countIn t (g .first) (g .last) day) t) gs
+        ≡ counted day t (cond b (window g ∷ windows window (appliesTo feature l r) gs) (windows window (appliesTo feature l r) gs))
+    go true rest = rest (countIn t (g .first) (g .last) day)
+    go false rest = rest t
+
+-- the tally of good grants says what is decided
+pub tally-decides : (feature l r day : ℕ) (gs : List Grant) → someBad gs ≡ false
+    → told (weighAll feature l r day nothing gs) ≡ dated day (windows window (appliesTo feature l r) gs)
+tally-decides feature l r day gs e =
+    ap told (weigh-counted feature l r day nothing gs) ∙ tally-dated day (windows window (appliesTo feature l r) gs) (windows-right (appliesTo feature l r) gs e)

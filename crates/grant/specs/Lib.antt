@@ -1,0 +1,4 @@
+pub mod Grant
+pub mod Decision
+pub mod Tally
+pub mod Says

@@ -1,0 +1,45 @@
+-- The decision by the ledger's order (document 01, "Grants and decisions"): a pass and each grant stand for groups.
+use Prim.Native.Nat.{ℕ}
+use mathlib.Core.Bool.{Bool, false, cond, not, _&&_, _||_}
+use mathlib.Core.List.{List, [], _∷_}
+use lib.Dec.{eqb, ltb}
+use Rattle.rules.specs.Answers.{Answer, answer, refused}
+use Rattle.grant.specs.Grant.{Grant}
+use Rattle.grant.specs.Decision.{Window, windows, Decision, dated}
+use Rattle.ledger.specs.Ledger.{Ledger}
+
+-- a feature granted to a group, with its days
+pub record Held : Type 0 where
+  pub feature : ℕ
+  pub group : ℕ
+  pub first : ℕ
+  pub last : ℕ
+
+abbrev pub days : Held → Window
+days h = record { first = h .first; last = h .last }
+
+-- 14: feature or first is 0, or last is not 0 and below first; a group's l and r are never 0
+unfoldable pub heldBad : Held → Bool
+heldBad h = eqb (h .feature) 0 || (eqb (h .first) 0 || (not (eqb (h .last) 0) && ltb (h .last) (h .first)))
+
+unfoldable pub someHeldBad : List Held → Bool
+someHeldBad [] = false
+someHeldBad (h ∷ hs) = heldBad h || someHeldBad hs
+
+-- a grant applies when the features are equal and the pass's group ≤ the grant's group
+unfoldable pub appliesBy : (order : ℕ → ℕ → Bool) (feature x : ℕ) → Held → Bool
+appliesBy order feature x h = eqb (h .feature) feature && order x (h .group)
+
+-- for a pass of the group x: 15 where feature or day is 0, then 14, then what the windows of the grants that apply say on the day
+unfoldable pub ledgerDecided : Ledger → (feature x day : ℕ) → List Held → Answer Decision
+ledgerDecided g feature x day hs =
+    cond (eqb feature 0 || eqb day 0)
+    (refused 15)
+    (cond (someHeldBad hs) (refused 14) (answer (dated day (windows days (appliesBy (g .order) feature x) hs))))
+
+-- held grants and stored ones, one for one
+abbrev pub Each : (Held → Grant → Type 0) → List Held → List Grant → Type 0
+Each R [] [] = Unit {0}
+Each R [] (g ∷ gs) = ⊥
+Each R (h ∷ hs) [] = ⊥
+Each R (h ∷ hs) (g ∷ gs) = R h g × Each R hs gs
