@@ -1,0 +1,5 @@
+pub mod Printing
+pub mod Reading
+pub mod Carrying
+pub mod Growing
+pub mod Room

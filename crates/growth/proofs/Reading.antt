@@ -1,0 +1,135 @@
+-- What is read of a log: its fresh pair, and where each request stands.
+use mathlib.Core.Path.{_≡_, refl, ap, sym, _∙_}
+use mathlib.Core.Bool.{false, _||_}
+use mathlib.Core.List.{List, []}
+use Prim.Native.Nat.{ℕ, _+_, _-_, _<_, _≤_}
+use native.Mathlib.Omega.{arith}
+use lib.Dec.{eqb, ltb}
+use lib.ListN.{length}
+use borrow.Author.Tests.{ltb-false, lt-ltb, le-ltb}
+use Rattle.rules.specs.Answers.{Answer, answer, refused, then}
+use Rattle.rules.specs.Limits.{mostRows}
+use Rattle.rules.proofs.Answers.{same-answer, never-refused, peel}
+use Rattle.number.specs.Number.{Number, found, numberAt}
+use Rattle.number.proofs.Laws.{number-ends}
+use Rattle.request.specs.Request.{Request}
+use Rattle.request.specs.Reading.{requestOf}
+use Rattle.request.specs.Acceptance.{accepted}
+use Rattle.request.proofs.ReadLaws.{then-answer}
+use Rattle.request.proofs.Accepting.{request-accepted}
+use Rattle.table.specs.Columns.{Row, Columns, rows, put, counted}
+use Rattle.table.specs.Check.{lengthsBad, checked, soundRows}
+use Rattle.table.specs.Fresh.{freshRows}
+use Rattle.table.proofs.Lengths.{Lengths, lengths-good}
+use Rattle.table.proofs.Passing.{check-passed, rows-good}
+use Rattle.refine.specs.Refine.{groupsOf, refineRows, explodedRows, refined}
+use Rattle.refine.proofs.Refinement.{promises}
+use Rattle.growth.specs.Growth.{Part, partAt, Begun, begun, begunAt, begunTable}
+use Rattle.growth.specs.Says.{Countable, Fitting}
+
+-- ## Where a request stands
+
+module _ (log : List ℕ) (at : ℕ) where
+  pub length-bad : {n : ℕ} → numberAt log at ≡ refused n → partAt log at ≡ refused n
+  unfolding partAt
+  length-bad e = rw e
+
+  pub length-over : {value next : ℕ} → numberAt log at ≡ found value next → length log - next < value → partAt log at ≡ refused 1
+  unfolding partAt
+  length-over e h = rw (e, lt-ltb _ _ h)
+
+  pub length-good : {value next : ℕ} → numberAt log at ≡ found value next → value ≤ length log - next
+      → partAt log at ≡ answer (record { start = next; end = next + value })
+  unfolding partAt
+  length-good e h = rw (e, le-ltb _ _ h)
+
+  -- a request stands after its length and within the log
+  pub part-in : (p : Part) → partAt log at ≡ answer p → (at < p .start) × (p .start ≤ p .end) × (p .end ≤ length log)
+  unfolding partAt
+  part-in p e =
+      let a = then-answer (numberAt log at) _ e in
+      let b = peel (ltb (length log - a .0 .next) (a .0 .value)) _ _ (a .2) in
+      let f = same-answer (b .1) in
+      let s : a .0 .next ≡ p .start = ap (λ (x : Part). x .start) f in
+      let t : a .0 .next + a .0 .value ≡ p .end = ap (λ (x : Part). x .end) f in
+      let n : (at < a .0 .next) × (a .0 .next ≤ length log) = number-ends log at (a .1) in
+      let l : a .0 .value ≤ length log - a .0 .next = ltb-false _ _ (b .0) in
+      (omega arith, omega arith, omega arith)
+
+-- ## What a request leads to
+
+pub counted-refused : (a : Answer (List Row)) {n : ℕ} → counted a ≡ refused n → a ≡ refused n
+counted-refused (answer t) e = never-refused (sym e)
+counted-refused (refused m) {n} e = let f : m ≡ n = cc in ap refused f
+
+pub counted-answer : (a : Answer (List Row)) {n : ℕ} → counted a ≡ answer n → (t : List Row) × (a ≡ answer t)
+counted-answer (answer t) e = (t, refl)
+counted-answer (refused m) e = never-refused e
+
+-- there is room for the rows of an accepted request
+pub refined-fits : (c : Columns) (count : ℕ) (bytes : List ℕ) {t : List Row} → refined c count bytes ≡ answer t → length t ≤ length (c .id)
+unfolding refined explodedRows
+refined-fits c count bytes {t} e =
+    let a = then-answer (checked c count) _ e in
+    let b = then-answer (requestOf bytes) _ (a .2) in
+    let d = then-answer (accepted (length (c .id)) (groupsOf (a .0)) (b .0)) _ (b .2) in
+    let p = check-passed c count (a .1) in
+    let s : soundRows (a .0) ≡ answer (a .0) = rw (p .1) at (rows-good (rows c count) (p .0 .good)) in
+    let q = request-accepted (length (c .id)) (groupsOf (a .0)) (b .0) (d .1) .1 in
+    let m = promises (length (c .id)) (a .0) bytes (b .0) s (b .1) (d .1 ∙ ap answer (sym q)) .refined-fits in
+    omega (arith, ap length (same-answer (d .2)))
+
+module _ {c : Columns} {count : ℕ} (fitting : Fitting c count) (bytes : List ℕ) where
+  pub refined-countable : Countable (counted (refined c count bytes))
+  refined-countable = go (refined c count bytes) (λ t e. refined-fits c count bytes e)
+    where
+      go : (f : Answer (List Row)) → ((t : List Row) → f ≡ answer t → length t ≤ length (c .id)) → Countable (counted f)
+      go (answer t) h = omega (arith, h t refl, fitting .most)
+      go (refused n) h = tt
+
+  pub refined-within : {n : ℕ} → counted (refined c count bytes) ≡ answer n → n ≤ length (c .id)
+  refined-within e =
+      let a = counted-answer (refined c count bytes) e in
+      omega (arith, refined-fits c count bytes (a .1), same-answer (sym e ∙ ap counted (a .1)))
+
+-- ## The fresh pair
+
+module _ (c : Columns) (log : List ℕ) where
+  pub first-bad : {n : ℕ} → numberAt log 0 ≡ refused n → begun c log ≡ refused n
+  unfolding begun
+  first-bad e = rw e
+
+  pub second-bad : {id second n : ℕ} → numberAt log 0 ≡ found id second → numberAt log second ≡ refused n → begun c log ≡ refused n
+  unfolding begun
+  second-bad e f = rw (e, f)
+
+  pub fresh-bad : {id second quota next n : ℕ} → numberAt log 0 ≡ found id second → numberAt log second ≡ found quota next
+      → freshRows c id quota ≡ refused n → begun c log ≡ refused n
+  unfolding begun
+  fresh-bad e f g = rw (e, f, g)
+
+  pub fresh-good : {id second quota next : ℕ} {t : List Row} → numberAt log 0 ≡ found id second → numberAt log second ≡ found quota next
+      → freshRows c id quota ≡ answer t → begun c log ≡ answer (record { rows = t; next = next })
+  unfolding begun
+  fresh-good e f g = rw (e, f, g)
+
+  -- the columns have one length, there is one row, and the requests start within the log
+  pub begun-in : (b : Begun) → begun c log ≡ answer b → Lengths c × (length (b .rows) ≡ 1) × (b .next ≤ length log)
+  unfolding begun freshRows
+  begun-in b e =
+      let i = then-answer (numberAt log 0) _ e in
+      let q = then-answer (numberAt log (i .0 .next)) _ (i .2) in
+      let t = then-answer (freshRows c (i .0 .value) (q .0 .value)) _ (q .2) in
+      let l = peel (lengthsBad c) _ _ (t .1) in
+      let z = peel (eqb (i .0 .value) 0 || eqb (q .0 .value) 0) _ _ (l .1) in
+      let f = same-answer (t .2) in
+      let r : t .0 ≡ b .rows = ap (λ (x : Begun). x .rows) f in
+      let n : q .0 .next ≡ b .next = ap (λ (x : Begun). x .next) f in
+      let h = number-ends log (i .0 .next) (q .1) in
+      (lengths-good c (l .0), sym (ap length r) ∙ sym (ap length (same-answer (z .1))), omega arith)
+
+pub begun-refused : (c : Columns) (b : Answer Begun) {n : ℕ} → b ≡ refused n → (refused n ≡ begunAt b) × (c ≡ begunTable b c)
+begun-refused c b e = (rw e, rw e)
+
+pub begun-answer : (c : Columns) (b : Answer Begun) {d : Begun} → b ≡ answer d → (answer (d .next) ≡ begunAt b) × (put (d .rows) c ≡ begunTable b c)
+begun-answer c b e = (rw e, rw e)
