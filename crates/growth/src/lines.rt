@@ -43,7 +43,7 @@ fn write_line(buffer: &mut [u8], p: usize, word: &[u8], n: u32) -> usize
 }
 
 // Writes `ok` and the count, or `no` and the refusal, at most 14 bytes.
-pub fn write_answer(buffer: &mut [u8], p: usize, a: Counted) -> usize
+pub(crate) fn write_answer(buffer: &mut [u8], p: usize, a: Counted) -> usize
     requires { ⌜ p + 14 ≤ length (now buffer) ⌝ }
     requires { ⌜ Countable (countedSays a) ⌝ }
     ensures { λ r. ⌜ r ≡ p + length (lineText (countedSays a)) ⌝ }
@@ -102,7 +102,7 @@ fn write_heading(buffer: &mut [u8], p: usize) -> usize
 }
 
 // Writes the heading and each row, at most 11280 bytes.
-pub fn write_table(
+pub(crate) fn write_table(
     buffer: &mut [u8],
     p: usize,
     id: &[u32],
