@@ -1,4 +1,5 @@
--- The limits of document 01. They stand here and in src/lib.rt, and nowhere else.
+-- The limits of document 01: by these names in every definition that renders a rule, and by those of src/lib.rt in code.
+-- Array types and refine's private contracts (refine/specs/Work) write them out.
 use Prim.Native.Nat.{ℕ}
 
 -- the greatest value of a number
