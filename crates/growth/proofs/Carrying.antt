@@ -10,7 +10,7 @@ use Rattle.rules.specs.Limits.{mostRows}
 use Rattle.rules.specs.Buffers.{after}
 use Rattle.rules.proofs.Buffers.{after-all}
 use Rattle.table.specs.Columns.{Row, Columns, counted, afterwards}
-use Rattle.table.proofs.Writing.{after-same, after-then}
+use Rattle.rules.proofs.Buffers.{after-same, after-then}
 use Rattle.refine.specs.Refine.{refined}
 use Rattle.growth.specs.Lines.{lineText}
 use Rattle.growth.specs.Growth.{Part, partAt, bytesIn, Growth, grown, headed, countAfter, partThen, requestThen, requestsFrom}

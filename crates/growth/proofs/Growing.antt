@@ -10,7 +10,7 @@ use Rattle.rules.specs.Buffers.{after}
 use Rattle.rules.proofs.Answers.{same-answer, never-refused}
 use Rattle.table.specs.Columns.{Row, Columns, rows, put}
 use Rattle.table.proofs.Rows.{rows-length}
-use Rattle.table.proofs.Writing.{after-then}
+use Rattle.rules.proofs.Buffers.{after-then}
 use Rattle.growth.specs.Lines.{lineText, rowsText, tableText}
 use Rattle.growth.specs.Growth.{Begun, begun, begunAt, begunTable, Growth, grown, requestsFrom, listed, growthFrom, growth, growText, growColumns, growRoom, growAnswer, growBuffer, growTable}
 use Rattle.growth.specs.Says.{Fitting, Carried}

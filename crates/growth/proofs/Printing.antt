@@ -13,7 +13,7 @@ use Rattle.text.specs.Decimal.{decimal}
 use Rattle.text.proofs.Laws.{decimal-count}
 use Rattle.table.specs.Columns.{Row, Columns, rowAt, rowsFrom, rows}
 use Rattle.table.proofs.Rows.{rows-more}
-use Rattle.table.proofs.Writing.{after-same, after-then}
+use Rattle.rules.proofs.Buffers.{after-same, after-then}
 use Rattle.growth.specs.Lines.{fieldText, lineText, headingText, rowText, rowsText, tableText}
 use Rattle.growth.specs.Says.{Countable}
 

@@ -38,3 +38,16 @@ after-after buffer at a b h =
     let l = length-sets buffer at a in
     rw (after-all buffer at a (omega arith), after-all (sets buffer at a) (at + length a) b (omega arith), after-all buffer at (a ++ b) h)
     (sets-sets a b buffer at)
+
+pub after-same : (buffer : List ℕ) (at : ℕ) (bytes : List ℕ) → at + length bytes ≤ length buffer → length (after buffer at bytes) ≡ length buffer
+after-same buffer at bytes h = rw (after-all buffer at bytes h) (length-sets buffer at bytes)
+
+pub after-none : (buffer : List ℕ) (at : ℕ) → at ≤ length buffer → after buffer at [] ≡ buffer
+after-none buffer at h = after-all buffer at [] (omega arith)
+
+-- some bytes, and then others after them
+pub after-then : (buffer : List ℕ) (at : ℕ) (a b : List ℕ) {first second : List ℕ} {p : ℕ}
+    → at + (length a + length b) ≤ length buffer → first ≡ after buffer at a → p ≡ at + length a → second ≡ after first p b
+    → second ≡ after buffer at (a ++ b)
+after-then buffer at a b h e n f =
+    rw (e, n) at f ∙ after-after buffer at a b (omega (arith, length-append a b))

@@ -4,9 +4,5 @@ pub mod Meeting
 pub mod Finding
 pub mod Lengths
 pub mod Passing
-pub mod Writing
-pub mod Filling
-pub mod Ending
-pub mod StoredLaws
 pub mod Soundness
 pub mod PartialOrder

@@ -5,6 +5,4 @@ pub mod Sound
 pub mod Fresh
 pub mod Order
 pub mod Found
-pub mod Stored
 pub mod Says
-pub mod Read

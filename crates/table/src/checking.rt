@@ -12,7 +12,7 @@ use rules::MOST_ROWS;
 use rules::Refusal;
 
 // 10: lengths differ or not 1 to 256.
-pub(crate) fn lengths_bad(id: &[u32], l: &[u32], r: &[u32], q: &[u32]) -> bool
+pub fn lengths_bad(id: &[u32], l: &[u32], r: &[u32], q: &[u32]) -> bool
     ensures { λ t. ⌜ t ≡ lengthsBad (columns (now (id .entry)) (now (l .entry)) (now (r .entry)) (now (q .entry))) ⌝ }
 {
     let n = id.len();
@@ -135,7 +135,7 @@ fn some_ranges_meet(id: &[u32], l: &[u32], r: &[u32], q: &[u32], count: usize) -
 }
 
 // 11, 12 and 13 of rows that the columns hold.
-pub(crate) fn check_rows(id: &[u32], l: &[u32], r: &[u32], q: &[u32], count: usize) -> Checked
+fn check_rows(id: &[u32], l: &[u32], r: &[u32], q: &[u32], count: usize) -> Checked
     requires { ⌜ Holds (columns (now id) (now l) (now r) (now q)) count ⌝ }
     ensures { λ t. ⌜ checkedSays t ≡ given (soundRows (rows (columns (now (id .entry)) (now (l .entry)) (now (r .entry)) (now (q .entry))) count)) ⌝ }
 {

@@ -2,15 +2,12 @@
 mod checking;
 mod making;
 mod ordering;
-mod reading;
-mod storing;
 
 pub use checking::check_columns;
+pub use checking::lengths_bad;
 pub use making::fresh;
 pub use ordering::order;
-pub use reading::read;
 use rules::Refusal;
-pub use storing::store;
 
 // What the check of the columns finds.
 pub enum Checked {

@@ -3,7 +3,7 @@ use mathlib.Core.List.{_++_}
 use native.Mathlib.Omega.{arith}
 use lib.ListN.{length, length-append}
 use denote.Ref.{now}
-use Rattle.table.proofs.Writing.{after-then}
+use Rattle.rules.proofs.Buffers.{after-then}
 use Rattle.growth.specs.Lines.{fieldText}
 use Rattle.growth.proofs.Printing.{field-most}
 use borrow.Author.Needs.{needs}

@@ -1,0 +1,4 @@
+pub mod Writing
+pub mod Filling
+pub mod Ending
+pub mod Laws

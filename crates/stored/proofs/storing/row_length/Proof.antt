@@ -1,0 +1,48 @@
+-- `stored::storing::row_length` meets its contract: a row's bytes are those of its four numbers.
+use native.Mathlib.Omega.{arith}
+use Rattle.number.proofs.Laws.{number-count}
+use Rattle.stored.proofs.Writing.{row-count}
+use borrow.Author.Needs.{needs}
+use Rattle.stored.proofs.storing.row_length.Statement.{statement}
+use Rattle.stored.proofs.storing.row_length.Tie as tie
+
+number-length-requires : tie.Need-number-length-requires
+number-length-requires c κs = search needs
+
+number-length-requires-2 : tie.Need-number-length-requires-2
+number-length-requires-2 c κs = search needs
+
+add-result : tie.Need-add-result
+add-result c = let a = c .before .before .args in omega (arith, number-count (a .id), number-count (a .l))
+
+number-length-requires-3 : tie.Need-number-length-requires-3
+number-length-requires-3 c κs = search needs
+
+add-result-2 : tie.Need-add-result-2
+add-result-2 c = let a = c .before .before .before .args in omega (arith, number-count (a .id), number-count (a .l), number-count (a .r))
+
+number-length-requires-4 : tie.Need-number-length-requires-4
+number-length-requires-4 c κs = search needs
+
+add-result-3 : tie.Need-add-result-3
+add-result-3 c =
+    let a = c .before .before .before .before .args in
+    omega (arith, number-count (a .id), number-count (a .l), number-count (a .r), number-count (a .q))
+
+returns : tie.Need-returns
+returns c =
+    let a = c .before .before .before .before .args in
+    omega (arith, row-count (record { id = a .id; l = a .l; r = a .r; q = a .q }))
+
+pub row-length-spec : {M : Type 1} → statement M
+row-length-spec =
+    tie.close
+    (tie.spec
+    number-length-requires
+    number-length-requires-2
+    add-result
+    number-length-requires-3
+    add-result-2
+    number-length-requires-4
+    add-result-3
+    returns)
