@@ -4,21 +4,25 @@ ghost use mathlib.Core.Path.{_≡_};
 ghost use Prim.Native.Nat.{ℕ, _≤_};
 ghost use lib.ListN.{length};
 ghost use Rattle.rules.specs.Answers.{answer};
+ghost use Rattle.rules.specs.Limits.{mostRows};
 ghost use Rattle.number.specs.Says.{writtenSays};
 use libc::STDIN_FILENO;
 use libc::STDOUT_FILENO;
 use number::Written;
+use rules::MOST_ROWS;
 
 // A column of the table.
-fn column() -> [u32; 256]
-    ensures { λ t. ⌜ 256 ≡ length t ⌝ }
+fn column() -> [u32; MOST_ROWS]
+    ensures { λ t. ⌜ mostRows ≡ length t ⌝ }
 {
-    [0; 256]
+    [0; MOST_ROWS]
 }
 
 // Room for the text of any log of 65536 bytes: 14 for each of its bytes, and 16384 for the table.
-fn text_buffer() -> [u8; 933888] {
-    [0; 933888]
+const TEXT_ROOM: usize = 933888;
+
+fn text_buffer() -> [u8; TEXT_ROOM] {
+    [0; TEXT_ROOM]
 }
 
 // Prints what was written of a text.
@@ -34,7 +38,7 @@ fn print(text: &[u8], w: Written)
 }
 
 // Carries out a log on a new table, and prints what it says.
-fn report(log: &[u8], text: &mut [u8; 933888]) {
+fn report(log: &[u8], text: &mut [u8; TEXT_ROOM]) {
     let mut id = column();
     let mut l = column();
     let mut r = column();

@@ -13,7 +13,7 @@ use Rattle.table.specs.Columns.{Row, Columns, counted, afterwards}
 use Rattle.rules.proofs.Buffers.{after-same, after-then}
 use Rattle.refine.specs.Refine.{refined}
 use Rattle.growth.specs.Lines.{lineText}
-use Rattle.growth.specs.Growth.{Part, partAt, bytesIn, Growth, grown, headed, countAfter, partThen, requestThen, requestsFrom}
+use Rattle.growth.specs.Growth.{Part, partAt, bytesIn, Growth, grown, headed, countAfter, partThen, requestThen, requestsFrom, lineRoom, tableRoom}
 use Rattle.growth.specs.Says.{Fitting, Carried}
 use Rattle.growth.specs.declared.Reached.{Reached}
 use Rattle.growth.proofs.Printing.{line-most}
@@ -50,7 +50,7 @@ pub record Going (log : List ℕ) (from : ℕ) (c₀ : Columns) (text₀ : List 
   pub enough : length log ≤ at + most
   pub here : p ≡ length done
   pub wrote : text ≡ after text₀ 0 done
-  pub room : p + 14 * (length log - at) + 16384 ≤ length text₀
+  pub room : p + lineRoom * (length log - at) + tableRoom ≤ length text₀
   pub whole : requestsFrom (length log) log from c₀ 1 ≡ headed done (requestsFrom most log at c count)
   pub fitting : Fitting c count
 
@@ -76,7 +76,7 @@ count-within (answer n) h k = k n refl
 count-within (refused n) h k = h
 
 module _ {log : List ℕ} {from : ℕ} {c₀ : Columns} {text₀ : List ℕ} where
-  pub going-begins : Fitting c₀ 1 → from ≤ length log → 14 * (length log - from) + 16384 ≤ length text₀ → Going log from c₀ text₀ c₀ text₀ from 1 0
+  pub going-begins : Fitting c₀ 1 → from ≤ length log → lineRoom * (length log - from) + tableRoom ≤ length text₀ → Going log from c₀ text₀ c₀ text₀ from 1 0
   going-begins f h r =
       record {
         most = length log;
@@ -140,7 +140,7 @@ module _ {log : List ℕ} {from : ℕ} {c₀ : Columns} {text₀ : List ℕ} whe
     going-again = again (g .most) (g .whole) (g .enough)
 
     ends : {n : ℕ} {next line : List ℕ} → requestsFrom (g .most) log at c count ≡ grown c count line → n ≡ p + length line → next ≡ after text₀ 0 (g .done ++ line)
-        → n + 16384 ≤ length text₀ → Carried (requestsFrom (length log) log from c₀ 1) text₀ c next (record { count = count; at = n })
+        → n + tableRoom ≤ length text₀ → Carried (requestsFrom (length log) log from c₀ 1) text₀ c next (record { count = count; at = n })
     ends {n} {next} {line} e en ex r =
         let w : requestsFrom (length log) log from c₀ 1 ≡ grown c count (g .done ++ line) = g .whole ∙ ap (headed (g .done)) e in
         record {

@@ -12,7 +12,7 @@ use Rattle.table.specs.Columns.{Row, Columns, rows, put}
 use Rattle.table.proofs.Rows.{rows-length}
 use Rattle.rules.proofs.Buffers.{after-then}
 use Rattle.growth.specs.Lines.{lineText, rowsText, tableText}
-use Rattle.growth.specs.Growth.{Begun, begun, begunAt, begunTable, Growth, grown, requestsFrom, listed, growthFrom, growth, growText, growColumns, growRoom, growAnswer, growBuffer, growTable}
+use Rattle.growth.specs.Growth.{Begun, begun, begunAt, begunTable, Growth, grown, requestsFrom, listed, growthFrom, growth, growText, growColumns, growRoom, growAnswer, growBuffer, growTable, lineRoom, tableRoom}
 use Rattle.growth.specs.Says.{Fitting, Carried}
 use Rattle.growth.specs.declared.Reached.{Reached}
 use Rattle.growth.proofs.Printing.{rows-most, table-count}
@@ -76,18 +76,18 @@ module _ (c : Columns) (log buffer : List ℕ) where
   Grows count text d = (answer count ≡ growAnswer c log buffer) × ((text ≡ growBuffer c log buffer) × (d ≡ growTable c log buffer))
 
   -- too short a buffer
-  pub no-room : length buffer < 14 * length log + 16384
+  pub no-room : length buffer < lineRoom * length log + tableRoom
       → (refused 30 ≡ growAnswer c log buffer) × ((buffer ≡ growBuffer c log buffer) × (c ≡ growTable c log buffer))
   unfolding growAnswer growBuffer growTable growRoom
   no-room h = (rw (lt-leb _ _ h), (rw (lt-leb _ _ h), rw (lt-leb _ _ h)))
 
-  grows : {count : ℕ} {text : List ℕ} {d : Columns} → 14 * length log + 16384 ≤ length buffer
+  grows : {count : ℕ} {text : List ℕ} {d : Columns} → lineRoom * length log + tableRoom ≤ length buffer
       → count ≡ length (growText c log) → text ≡ after buffer 0 (growText c log) → d ≡ growColumns c log → Grows count text d
   unfolding growAnswer growBuffer growTable growRoom
   grows h n t d = (rw (le-leb _ _ h) (ap answer n), (rw (le-leb _ _ h) t, rw (le-leb _ _ h) d))
 
   -- a bad fresh pair
-  pub grown-bad : {n count : ℕ} {text : List ℕ} {d : Columns} → 14 * length log + 16384 ≤ length buffer → begunAt (begun c log) ≡ refused n
+  pub grown-bad : {n count : ℕ} {text : List ℕ} {d : Columns} → lineRoom * length log + tableRoom ≤ length buffer → begunAt (begun c log) ≡ refused n
       → d ≡ begunTable (begun c log) c → count ≡ 0 + length (lineText (refused n)) → text ≡ after buffer 0 (lineText (refused n)) → Grows count text d
   grown-bad {n} h e t k w =
       let b = begun-no (begun c log) e in
@@ -97,7 +97,7 @@ module _ (c : Columns) (log buffer : List ℕ) where
       (t ∙ ap (λ x. begunTable x c) b ∙ sym (ap (λ (x : Growth). x .table) g))
 
   -- the requests, and then the table
-  pub grown-all : {next count : ℕ} {text middle : List ℕ} {d e : Columns} {r : Reached} → 14 * length log + 16384 ≤ length buffer → begunAt (begun c log) ≡ answer next
+  pub grown-all : {next count : ℕ} {text middle : List ℕ} {d e : Columns} {r : Reached} → lineRoom * length log + tableRoom ≤ length buffer → begunAt (begun c log) ≡ answer next
       → d ≡ begunTable (begun c log) c → Carried (requestsFrom (length log) log next d 1) buffer e middle r
       → count ≡ r .at + length (tableText (rows e (r .count))) → text ≡ after middle (r .at) (tableText (rows e (r .count))) → Grows count text e
   grown-all {next} {count} {text} {middle} {d} {e} {r} h a t w k o =

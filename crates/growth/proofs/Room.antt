@@ -15,7 +15,7 @@ use Rattle.table.specs.Columns.{Row, Columns, overlay, rows, put, counted, afte
 use Rattle.table.proofs.Rows.{rows-length}
 use Rattle.refine.specs.Refine.{refined}
 use Rattle.growth.specs.Lines.{lineText, tableText}
-use Rattle.growth.specs.Growth.{Part, partAt, bytesIn, Begun, begun, Growth, grown, headed, countAfter, requestsFrom, listed, growth, growText, growRoom, growAnswer}
+use Rattle.growth.specs.Growth.{Part, partAt, bytesIn, Begun, begun, Growth, grown, headed, countAfter, requestsFrom, listed, growth, growText, growRoom, growAnswer, lineRoom, tableRoom}
 use Rattle.growth.proofs.Printing.{line-most, rows-most, table-count}
 use Rattle.growth.proofs.Reading.{part-in, counted-answer, refined-fits, begun-in}
 use Rattle.growth.proofs.Carrying.{stop, bad, goes-on, count-within}
@@ -47,7 +47,7 @@ sized-after c count bytes s =
 
 -- few lines for so many bytes of the log, and a count that rows can have
 record Few (g : Growth) (bytes : ℕ) : Type 0 where
-  lines : length (g .text) ≤ 14 * bytes
+  lines : length (g .text) ≤ lineRoom * bytes
   rows : g .count ≤ mostRows
 
 few-is : {g h : Growth} {bytes : ℕ} → g ≡ h → Few h bytes → Few g bytes
@@ -79,7 +79,7 @@ pub grow-room : (c : Columns) (log : List ℕ) → length (growText c log) ≤ g
 unfolding growRoom
 grow-room c log = go (begun c log) refl
   where
-    go : (b : Answer Begun) → begun c log ≡ b → length (growText c log) ≤ 14 * length log + 16384
+    go : (b : Answer Begun) → begun c log ≡ b → length (growText c log) ≤ lineRoom * length log + tableRoom
     go (refused n) e = omega (arith, line-most (refused n), ap (λ (g : Growth). length (g .text)) (growth-bad c log e))
     go (answer b) e =
         let i = begun-in c log b e in

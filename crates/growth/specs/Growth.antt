@@ -102,9 +102,15 @@ growText c log = growth c log .text
 abbrev pub growColumns : Columns → List ℕ → Columns
 growColumns c log = growth c log .table
 
--- the room for the text of any log of this length: 14 bytes for each byte of the log, and 16384 for the table
+-- the room for the text of any log of this length: so much for each byte of the log, and for the table
+abbrev pub lineRoom : ℕ
+lineRoom = 14
+
+abbrev pub tableRoom : ℕ
+tableRoom = 16384
+
 unfoldable pub growRoom : ℕ → ℕ
-growRoom bytes = 14 * bytes + 16384
+growRoom bytes = lineRoom * bytes + tableRoom
 
 -- 30 where the buffer is shorter than that; then nothing is written
 unfoldable pub growAnswer : Columns → List ℕ → List ℕ → Answer ℕ

@@ -8,7 +8,7 @@ use Rattle.rules.specs.Refusals.{refusalNumber}
 use Rattle.rules.specs.Buffers.{after}
 use Rattle.rules.specs.Limits.{mostRows}
 use Rattle.table.specs.Columns.{Columns}
-use Rattle.growth.specs.Growth.{Part, Growth}
+use Rattle.growth.specs.Growth.{Part, Growth, tableRoom}
 use Rattle.growth.specs.declared.Request.{Request}
 use Rattle.growth.specs.declared.Request.the-variants as request
 use Rattle.growth.specs.declared.Started.{Started}
@@ -28,7 +28,7 @@ abbrev pub Countable : Answer ℕ → Type 0
 Countable (answer n) = n ≤ mostRows
 Countable (refused n) = Unit {0}
 
--- columns of one length, at most 256, and a count up to it
+-- columns of one length, at most the most rows, and a count up to it
 pub record Fitting (c : Columns) (count : ℕ) : Type 0 where
   pub in-l : length (c .l) ≡ length (c .id)
   pub in-r : length (c .r) ≡ length (c .id)
@@ -43,4 +43,4 @@ pub record Carried (g : Growth) (buffer₀ : List ℕ) (c : Columns) (buffer : L
   pub at : r .at ≡ length (g .text)
   pub text : buffer ≡ after buffer₀ 0 (g .text)
   pub fitting : Fitting c (r .count)
-  pub room : r .at + 16384 ≤ length buffer₀
+  pub room : r .at + tableRoom ≤ length buffer₀

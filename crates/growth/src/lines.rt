@@ -8,6 +8,7 @@ ghost use Rattle.rules.specs.Limits.{mostRows};
 ghost use Rattle.table.specs.Columns.{columns, rows};
 ghost use Rattle.table.specs.Held.{Holds};
 ghost use Rattle.table.specs.Says.{countedSays};
+ghost use Rattle.growth.specs.Growth.{tableRoom};
 ghost use Rattle.growth.specs.Lines.{fieldText, lineText, headingText, rowText, rowsText, tableText};
 ghost use Rattle.growth.specs.Says.{Countable};
 use table::Counted;
@@ -113,7 +114,7 @@ pub(crate) fn write_table(
 ) -> usize
     requires { ⌜ Holds (columns (now id) (now l) (now r) (now q)) count ⌝ }
     requires { ⌜ count ≤ mostRows ⌝ }
-    requires { ⌜ p + 16384 ≤ length (now buffer) ⌝ }
+    requires { ⌜ p + tableRoom ≤ length (now buffer) ⌝ }
     ensures { λ t. ⌜ t ≡ p + length (tableText (rows (columns (now (id .entry)) (now (l .entry)) (now (r .entry)) (now (q .entry))) count)) ⌝ }
     ensures { λ t. ⌜ now (buffer .exit) ≡ after (now (buffer .entry)) p (tableText (rows (columns (now (id .entry)) (now (l .entry)) (now (r .entry)) (now (q .entry))) count)) ⌝ }
 {

@@ -6,7 +6,7 @@ ghost use Rattle.rules.specs.Answers.{answer, then};
 ghost use Rattle.number.specs.Says.{writtenSays};
 ghost use Rattle.table.specs.Columns.{columns, put};
 ghost use Rattle.table.specs.Says.{countedSays};
-ghost use Rattle.growth.specs.Growth.{partAt, countAfter, requestsFrom, begun, begunAt, begunTable, growAnswer, growBuffer, growTable};
+ghost use Rattle.growth.specs.Growth.{partAt, countAfter, requestsFrom, begun, begunAt, begunTable, growAnswer, growBuffer, growTable, lineRoom, tableRoom};
 ghost use Rattle.growth.specs.Says.{requestSays, startedSays, Fitting, Carried};
 use crate::Reached;
 use crate::Request;
@@ -80,7 +80,7 @@ fn carry_out(
 ) -> Reached
     requires { ⌜ Fitting (columns (now id) (now l) (now r) (now q)) 1 ⌝ }
     requires { ⌜ from ≤ length (now log) ⌝ }
-    requires { ⌜ 14 * (length (now log) - from) + 16384 ≤ length (now text) ⌝ }
+    requires { ⌜ lineRoom * (length (now log) - from) + tableRoom ≤ length (now text) ⌝ }
     ensures { λ t. ⌜ Carried (requestsFrom (length (now (log .entry))) (now (log .entry)) from (columns (now (id .entry)) (now (l .entry)) (now (r .entry)) (now (q .entry))) 1) (now (text .entry)) (columns (now (id .exit)) (now (l .exit)) (now (r .exit)) (now (q .exit))) (now (text .exit)) t ⌝ }
 {
     let mut at = from;

@@ -6,6 +6,7 @@ use Prim.Native.Nat.{ℕ, zero, suc, _+_, _≤_, _<_}
 use lib.Dec.{eqb}
 use lib.ListN.{length, getD}
 use Rattle.rules.specs.Answers.{Answer, answer, refused, then}
+use Rattle.rules.specs.Limits.{greatest, mostEntries}
 use Rattle.request.specs.Entries.{Entry, entry}
 use Rattle.request.specs.Forest.{Forest, none, tree, Direction, upright, inverted}
 use Rattle.request.specs.Numbering.{whole, size, lefts, rights}
@@ -32,14 +33,14 @@ pub record EntryIn (w : Work) (at id quota end sum : ℕ) : Type 0 where
 abbrev pub Stored : Work → ℕ → Forest → Type 0
 Stored w at none = Unit {0}
 Stored w at (tree i q c r) =
-    EntryIn w at i q (at + 1 + size c) (q + whole c) × ((1 ≤ q) × (q ≤ 4294967295)) × Stored w (at + 1) c × Stored w (at + 1 + size c) r
+    EntryIn w at i q (at + 1 + size c) (q + whole c) × ((1 ≤ q) × (q ≤ greatest)) × Stored w (at + 1) c × Stored w (at + 1 + size c) r
 
--- every work column has room for 256 entries
+-- every work column has room for the most entries
 pub record Roomy (w : Work) : Type 0 where
-  pub in-ids : length (w .ids) ≡ 256
-  pub in-quotas : length (w .quotas) ≡ 256
-  pub in-ends : length (w .ends) ≡ 256
-  pub in-sums : length (w .sums) ≡ 256
+  pub in-ids : length (w .ids) ≡ mostEntries
+  pub in-quotas : length (w .quotas) ≡ mostEntries
+  pub in-ends : length (w .ends) ≡ mostEntries
+  pub in-sums : length (w .sums) ≡ mostEntries
 
 -- two work columns agree below an index
 pub record SameBelow (n : ℕ) (w v : Work) : Type 0 where
@@ -82,7 +83,7 @@ summary found = then found λ q. answer (record { exploded = q .exploded; uprigh
 
 -- the trees of a request that is heard stand in the work columns, with 1 to 256 entries
 abbrev pub HeardIn : Answer Request → Work → Type 0
-HeardIn (answer q) w = Stored w 0 (q .trees) × (1 ≤ size (q .trees)) × (size (q .trees) ≤ 256)
+HeardIn (answer q) w = Stored w 0 (q .trees) × (1 ≤ size (q .trees)) × (size (q .trees) ≤ mostEntries)
 HeardIn (refused n) w = Unit {0}
 
 -- the numbering of a forest that stands in the work columns, in a box of the forest's quota
@@ -90,8 +91,8 @@ pub record Boxed (w : Work) (from to l r quota : ℕ) (ls rs : List ℕ) (t : Fo
   pub stored : Stored w from t
   pub ends-at : to ≡ from + size t
   pub fits : whole t ≡ quota
-  pub l-end : l + quota ≤ 4294967296
-  pub r-end : r + quota ≤ 4294967296
+  pub l-end : l + quota ≤ greatest + 1
+  pub r-end : r + quota ≤ greatest + 1
   pub l-part : length ls ≡ size t
   pub r-part : length rs ≡ size t
 
@@ -107,5 +108,5 @@ pub record Told (w : Work) (exploded : ℕ) (up : Bool) (entries quota : ℕ) (q
   pub exploded-is : exploded ≡ q .exploded
   pub direction-is : directionBy up ≡ q .direction
   pub entries-are : entries ≡ size (q .trees)
-  pub entries-most : entries ≤ 256
+  pub entries-most : entries ≤ mostEntries
   pub quota-is : quota ≡ whole (q .trees)

@@ -3,6 +3,7 @@ ghost use mathlib.Core.Path.{_≡_};
 ghost use mathlib.Core.List.{List};
 ghost use Prim.Native.Nat.{ℕ, _+_, _-_, _≤_};
 ghost use lib.ListN.{length};
+ghost use Rattle.rules.specs.Limits.{greatest};
 ghost use Rattle.boxes.specs.Boxes.{boxOf};
 ghost use Rattle.request.specs.Forest.{Forest};
 ghost use Rattle.request.specs.Numbering.{lefts, rights};
@@ -15,7 +16,7 @@ use boxes::RValue;
 
 // The parent's own box: the low corner of its subtree's box (upright), or the high corner (inverted).
 fn corner(upright: bool, area: Box, own: u64) -> Box
-    requires { ⌜ (own ≤ area .quota) × ((area .l .0 + area .quota ≤ 4294967296) × (area .r .0 + area .quota ≤ 4294967296)) ⌝ }
+    requires { ⌜ (own ≤ area .quota) × ((area .l .0 + area .quota ≤ greatest + 1) × (area .r .0 + area .quota ≤ greatest + 1)) ⌝ }
     ensures { λ b. ⌜ b ≡ cornerOf upright area own ⌝ }
 {
     let l = area.l.0;
@@ -37,7 +38,7 @@ fn corner(upright: bool, area: Box, own: u64) -> Box
 
 // The box that the children share.
 fn inner(upright: bool, area: Box, own: u64) -> Box
-    requires { ⌜ (own ≤ area .quota) × ((area .l .0 + area .quota ≤ 4294967296) × (area .r .0 + area .quota ≤ 4294967296)) ⌝ }
+    requires { ⌜ (own ≤ area .quota) × ((area .l .0 + area .quota ≤ greatest + 1) × (area .r .0 + area .quota ≤ greatest + 1)) ⌝ }
     ensures { λ b. ⌜ b ≡ innerOf upright area own ⌝ }
 {
     let l = area.l.0;

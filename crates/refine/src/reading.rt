@@ -1,6 +1,7 @@
 // A request's bytes, drawn into the work columns.
 ghost use mathlib.Core.Path.{_≡_};
 ghost use Prim.Native.Nat.{_≤_};
+ghost use Rattle.rules.specs.Limits.{mostEntries};
 ghost use Rattle.number.specs.Says.{drawnSays};
 ghost use Rattle.request.specs.Reading.{positiveAt, entryAt, treesAt, requestOf};
 ghost use Rattle.refine.specs.Says.{takenSays, walkSays, heardSays};
@@ -58,7 +59,7 @@ pub(crate) fn read_trees(
     sums: &mut [u64],
 ) -> Walk
     requires { ⌜ Roomy (work (now ids) (now quotas) (now ends) (now sums)) ⌝ }
-    requires { ⌜ used ≤ 256 ⌝ }
+    requires { ⌜ used ≤ mostEntries ⌝ }
     ensures { λ t. ⌜ walkSays t ≡ reached (treesAt room trees (now (bytes .entry)) at used) ⌝ }
     ensures { λ t. ⌜ Walked (treesAt room trees (now (bytes .entry)) at used) used (work (now (ids .entry)) (now (quotas .entry)) (now (ends .entry)) (now (sums .entry))) (work (now (ids .exit)) (now (quotas .exit)) (now (ends .exit)) (now (sums .exit))) ⌝ }
 {

@@ -6,6 +6,7 @@ ghost use Prim.Native.Nat.{ℕ, _+_, _-_, _≤_, _<_};
 ghost use lib.Dec.{eqb, leb};
 ghost use lib.ListN.{length, getD};
 ghost use Rattle.rules.specs.Answers.{answer};
+ghost use Rattle.rules.specs.Limits.{mostEntries};
 ghost use Rattle.request.specs.Entries.{count as timesOf};
 ghost use Rattle.request.specs.Entries.{has, someEntry};
 ghost use Rattle.request.specs.Request.{Request};
@@ -23,6 +24,7 @@ use crate::placing::place_of;
 use crate::placing::times;
 use crate::reading::read_request;
 use boxes::Box;
+use rules::MOST_ENTRIES;
 use rules::Refusal;
 use table::Checked;
 use table::Counted;
@@ -75,7 +77,7 @@ fn write_entries(
     new_l: &mut [u32],
     new_r: &mut [u32],
 )
-    requires { ⌜ (length (now «new_l») ≡ 256) × (length (now «new_r») ≡ 256) ⌝ }
+    requires { ⌜ (length (now «new_l») ≡ mostEntries) × (length (now «new_r») ≡ mostEntries) ⌝ }
     requires { ⌜ checked (columns (now id) (now l) (now r) (now q)) count ≡ answer (rows (columns (now id) (now l) (now r) (now q)) count) ⌝ }
     requires { ⌜ PlaceIn (now id) count exploded own × (own < count) ⌝ }
     requires { ⌜ ((a : Request) × (s : ℕ) × Told (work (now ids) (now quotas) (now ends) (now sums)) exploded upright entries s a × (accepted (length (now id)) (groupsOf (rows (columns (now id) (now l) (now r) (now q)) count)) a ≡ answer a)) ⌝ }
@@ -117,7 +119,7 @@ fn explode(
     new_l: &mut [u32],
     new_r: &mut [u32],
 ) -> Counted
-    requires { ⌜ (length (now «new_l») ≡ 256) × (length (now «new_r») ≡ 256) ⌝ }
+    requires { ⌜ (length (now «new_l») ≡ mostEntries) × (length (now «new_r») ≡ mostEntries) ⌝ }
     requires { ⌜ checked (columns (now id) (now l) (now r) (now q)) count ≡ answer (rows (columns (now id) (now l) (now r) (now q)) count) ⌝ }
     requires { ⌜ ((a : Request) × Told (work (now ids) (now quotas) (now ends) (now sums)) exploded upright entries quota a) ⌝ }
     ensures { λ t. ⌜ ((a : Request) → Told (work (now (ids .entry)) (now (quotas .entry)) (now (ends .entry)) (now (sums .entry))) exploded upright entries quota a → (countedSays t ≡ counted (explodedRows (length (now (id .entry))) (rows (columns (now (id .entry)) (now (l .entry)) (now (r .entry)) (now (q .entry))) count) a)) × (columns (now (id .exit)) (now (l .exit)) (now (r .exit)) (now (q .exit)) ≡ afterwards (explodedRows (length (now (id .entry))) (rows (columns (now (id .entry)) (now (l .entry)) (now (r .entry)) (now (q .entry))) count) a) (columns (now (id .entry)) (now (l .entry)) (now (r .entry)) (now (q .entry))))) ⌝ }
@@ -158,23 +160,23 @@ fn explode(
     Counted::Count(count + entries - 1)
 }
 
-// A work column: a place for each of 256 entries.
-fn places() -> [u32; 256]
-    ensures { λ t. ⌜ 256 ≡ length t ⌝ }
+// A work column: a place for each entry.
+fn places() -> [u32; MOST_ENTRIES]
+    ensures { λ t. ⌜ mostEntries ≡ length t ⌝ }
 {
-    [0; 256]
+    [0; MOST_ENTRIES]
 }
 
-fn indices() -> [usize; 256]
-    ensures { λ t. ⌜ 256 ≡ length t ⌝ }
+fn indices() -> [usize; MOST_ENTRIES]
+    ensures { λ t. ⌜ mostEntries ≡ length t ⌝ }
 {
-    [0; 256]
+    [0; MOST_ENTRIES]
 }
 
-fn amounts() -> [u64; 256]
-    ensures { λ t. ⌜ 256 ≡ length t ⌝ }
+fn amounts() -> [u64; MOST_ENTRIES]
+    ensures { λ t. ⌜ mostEntries ≡ length t ⌝ }
 {
-    [0; 256]
+    [0; MOST_ENTRIES]
 }
 
 // A request to a sound table.

@@ -1,5 +1,4 @@
--- The limits of document 01: by these names in every definition that renders a rule, and by those of src/lib.rt in code.
--- Array types and refine's private contracts (refine/specs/Work) write them out.
+-- The limits of document 01. They stand here for definitions and contracts, and in src/lib.rt for code, and nowhere else.
 use Prim.Native.Nat.{ℕ}
 
 -- the greatest value of a number

@@ -13,6 +13,7 @@ ghost use Rattle.stored.specs.Says.{rowSays, endSays};
 ghost use Rattle.stored.specs.Work.{Work};
 use number::Drawn;
 use number::number_at;
+use rules::MOST_ROWS;
 use rules::Refusal;
 use table::Checked;
 use table::Counted;
@@ -162,10 +163,10 @@ fn read_rows(
     ensures { λ t. ⌜ countedSays t ≡ counted (rowsToEnd count (now (bytes .entry)) at) ⌝ }
     ensures { λ t. ⌜ columns (now (id .exit)) (now (l .exit)) (now (r .exit)) (now (q .exit)) ≡ afterwards (rowsToEnd count (now (bytes .entry)) at) (columns (now (id .entry)) (now (l .entry)) (now (r .entry)) (now (q .entry))) ⌝ }
 {
-    let mut ids = [0u32; 256];
-    let mut ls = [0u32; 256];
-    let mut rs = [0u32; 256];
-    let mut qs = [0u32; 256];
+    let mut ids = [0u32; MOST_ROWS];
+    let mut ls = [0u32; MOST_ROWS];
+    let mut rs = [0u32; MOST_ROWS];
+    let mut qs = [0u32; MOST_ROWS];
     match draw_rows(bytes, at, count, &mut ids, &mut ls, &mut rs, &mut qs) {
         Checked::Refused(why) => Counted::Refused(why),
         Checked::Sound => {
