@@ -1,6 +1,5 @@
--- `reader::draw_at` meets its contract: a walk of its MIR, by hand. A `Reader` that one call returns is held in a local and passed to the draw. All that the proof knows of `new` and of `draw` is that each meets its contract.
--- The machine value that `new` returns is stored and passed on as it is. In a local of a body MIR erases the lifetime of the struct's type, so the value is shown to have the type at `erased`: what the struct owns does not say the lifetime's name.
--- Assumes nothing.
+-- `reader::draw_at` meets its contract: a walk of its MIR. The `Reader` that `new` returns is held in a local and passed to `draw`.
+-- In a local of a body MIR erases the lifetime of the struct's type, so the value is shown to have the type at `erased`.
 use mathlib.Core.Path.{_≡_, refl, ap, _∙_}
 use Prim.Native.Nat.{ℕ, _<_, _^_}
 use mathlib.Core.List.{List, [], _∷_}
@@ -14,18 +13,17 @@ use prog.Memory.{Memory}
 use prog.Routine.{Routine}
 use prog.Wp.{Heap, Calls, Loops, WpFn, Tables}
 use ghost.Atoms.{Atoms, sem}
-use contract.Lifetimes.{Lfts}
 use contract.Monad.{Fun, fact}
 use contract.Running.{givenOf, tables, tablesOf}
 use types.Kit.{Given, ‵, raw, _⊛_, ⋆, some, later, _$_, _∵_, !, qed, by, move, use1, use2, split, join, pick, fsplit, fjoin, suffices, frame, await, done}
 use types.Run.{look, init, forget, stop, from, load, and-then, no-more, land, returns, enter, alloc1, alloc0, params1, pass1, pass0, free1, free0}
 use sound.WpLaws.{FmC, fmOf, WpFn-mono}
-use denote.RattleType.{RattleType, owns}
+use denote.RattleType.{owns}
 use denote.Laws.{Is, shows}
 use denote.Plain.{uint-vals, uint-tells, uint-makes}
 use denote.Builtin.{u8, usize}
 use denote.Ref.{RefT, NamedLft, now}
-use denote.Signature.{plain, namedLft}
+use denote.Signature.{plain}
 use denote.Slice.{sliceVal, ShrSlice, slice-vals, shr-slice-tells, shr-slice-lawful, shr-slice-copy}
 use denote.Steps.{owned, peeks, heard, nothing}
 use denote.Enum.Laws as EL
@@ -43,6 +41,7 @@ use Rattle.number.specs.Number.{Number, numberAt}
 use Rattle.number.specs.Says.{drawnSays}
 use Rattle.reader.specs.declared.Reader.{Reader}
 use Rattle.number.specs.declared.Drawn.{Drawn}
+use Rattle.reader.proofs.Held.{row}
 use Rattle.reader.proofs.Reader as T
 use Rattle.reader.proofs.Reader.Laws as T′
 use Rattle.number.proofs.Drawn as S
@@ -59,10 +58,6 @@ use Rattle.reader.proofs.draw_at.Key.{name as #reader·draw-at}
 use Rattle.reader.proofs.draw_at as draw-at
 use Rattle.reader.proofs.draw_at.Statement as stated
 use Rattle.reader.proofs.draw_at.Code as code
-
--- the struct's type, over the signature's lifetimes
-abbrev B : Lfts 1 → RattleType
-B κs = T.the-row (namedLft 1 0 tt κs)
 
 abbrev stayed : Stays (draw-at.ended .signature .params) (draw-at.ended .kept)
 stayed = (stay-none-slice (0 ∷ []) tt (plain (λ _. u8)) yes, (stay-none (λ _. usize) yes, tt))
@@ -113,8 +108,8 @@ module _ {M : Type 1} (𝓤 : URA M) (H : Heap 𝓤) (A : Atoms 𝓤) (W : Given
   abbrev to-draw : Reader → Val → Draw 𝓤 H A mem run .Ghost
   to-draw r u = (((κ, tt), (q, tt), tt, (r, tt), (u ∷ [], tt)), tt)
 
-  goes-draw : (r : Reader) (u : Val) → ent 𝓤 (⋆ 𝓤 H A (‵ (B (κ, tt) .own r (u ∷ [])) ∷ (‵ (flft κ q) ⊛ ‵ ftrue) ∷ [])) (Draw 𝓤 H A mem run .pre (to-draw r u))
-  goes-draw r u = qed W (‵ (B (κ, tt) .own r (u ∷ [])) ∷ (‵ (flft κ q) ⊛ ‵ ftrue) ∷ []) ∵ nothing ! $ move ! (1 ∷ 0 ∷ []) $ fjoin ! $ move ! (1 ∷ 0 ∷ []) $ join ! $ frame ! $ done !
+  goes-draw : (r : Reader) (u : Val) → ent 𝓤 (⋆ 𝓤 H A (‵ (row (κ, tt) .own r (u ∷ [])) ∷ (‵ (flft κ q) ⊛ ‵ ftrue) ∷ [])) (Draw 𝓤 H A mem run .pre (to-draw r u))
+  goes-draw r u = qed W (‵ (row (κ, tt) .own r (u ∷ [])) ∷ (‵ (flft κ q) ⊛ ‵ ftrue) ∷ []) ∵ nothing ! $ move ! (1 ∷ 0 ∷ []) $ fjoin ! $ move ! (1 ∷ 0 ∷ []) $ join ! $ frame ! $ done !
 
   draw-said : (r : Reader) (t : Drawn) → ent 𝓤 (ensured 𝓤 H A draw.ended (draw.clauses 𝓤 H A mem run) (κ, tt) (r, tt) tt t) (fact 𝓤 (drawnSays t ≡ numberAt (now (r .bytes)) (r .at)))
   draw-said r t = exE 𝓤 _ (λ ws. snd∗ 𝓤 (sem 𝓤 H A (lasts draw.ended (κ, tt) (r, tt) ws)) (fact 𝓤 (drawnSays t ≡ numberAt (now (r .bytes)) (r .at))))
@@ -132,10 +127,10 @@ module _ {M : Type 1} (𝓤 : URA M) (H : Heap 𝓤) (A : Atoms 𝓤) (W : Given
         alloc1 ! (λ l₀. alloc1 ! (λ l₁. alloc1 ! (λ l₂. alloc1 ! (λ l₃. alloc0 ! $ params1 ! $ pass1 ! (init ! 4 refl (shr-slice-lawful 𝓤 H A W (named 0) κ u8 .typed s (v ∷ []) p .0)) $ pass1 ! (init ! 2 refl (tt, record { fits = ok })) $ pass0 ! $
         move ! (8 ∷ []) $ use1 W (raw (New 𝓤 H A mem run .pre to-new) ⊛ ‵ Own) goes-new $ split ! $
         calls-at ! fm (New 𝓤 H A mem run) known-new to-new (and-then ! (load ! (from ! (stop !)) (look ! 6 refl)) (and-then ! (load ! (from ! (stop !)) (look ! 4 refl)) (no-more !))) (λ u.
-        use1 W (later (some (λ (r : Reader). ((‵ (flft κ q) ⊛ ‵ ftrue) ⊛ ‵ (B (κ, tt) .own r (u ∷ []))) ⊛ raw (ensured 𝓤 H A new.ended (new.clauses 𝓤 H A mem run) (κ, tt) (s, (n, tt)) tt r)))) (id⊢ 𝓤 _) $ await ! tt $ pick ! (λ r.
+        use1 W (later (some (λ (r : Reader). ((‵ (flft κ q) ⊛ ‵ ftrue) ⊛ ‵ (row (κ, tt) .own r (u ∷ []))) ⊛ raw (ensured 𝓤 H A new.ended (new.clauses 𝓤 H A mem run) (κ, tt) (s, (n, tt)) tt r)))) (id⊢ 𝓤 _) $ await ! tt $ pick ! (λ r.
         split ! $ move ! (1 ∷ []) $ use1 W (raw (fact 𝓤 ((r .bytes ≡ s) × (r .at ≡ n)))) (new-said r) $ heard ! ((r .bytes ≡ s) × (r .at ≡ n)) (λ e. split ! $ move ! (1 ∷ []) $
         -- [what the struct owns; the token; what s owns; room for _3; …; _2; …; _1; …; room for _0; …]
-        peeks ! (B (κ, tt)) (Is (B (κ, tt))) (shows 𝓤 H A (B (κ, tt))) r (u ∷ []) (λ is.
+        peeks ! (row (κ, tt)) (Is (row (κ, tt))) (shows 𝓤 H A (row (κ, tt))) r (u ∷ []) (λ is.
         land ! (from ! (stop !)) (init ! 3 refl (LL.lawful (T.the-type αᵉ) (T′.the-laws αᵉ) 𝓤 H A W .typed r _ is .0)) $
         use2 W (raw (Draw 𝓤 H A mem run .pre (to-draw r u))) (goes-draw r u) $
         calls-at ! fm (Draw 𝓤 H A mem run) known-draw (to-draw r u) (and-then ! (load ! (from ! (stop !)) (look ! 2 refl)) (no-more !)) (λ u′.

@@ -1,6 +1,5 @@
--- `reader::Reader::draw` meets its contract: a walk of its MIR, by hand. The struct is taken apart, and `number_at` is called on the slice and the number. All that the proof knows of `number_at` is that it meets its contract.
--- The struct is Copy: what it owns is had twice, one copy is kept whole for the exit, and of the other what bytes owns goes to the callee, beside the lifetime's token, which comes back.
--- Assumes nothing.
+-- `reader::Reader::draw` meets its contract: a walk of its MIR. The struct is taken apart, and `number_at` is called on the slice and the number.
+-- The struct is Copy: what it owns is had twice. One copy is kept whole for the exit; of the other, what bytes owns goes to the callee, beside the lifetime's token, which comes back.
 use mathlib.Core.Path.{_≡_, refl}
 use Prim.Native.Nat.{_<_, _^_}
 use mathlib.Core.List.{[], _∷_}
@@ -15,19 +14,17 @@ use prog.Memory.{Memory}
 use prog.Routine.{Routine}
 use prog.Wp.{Heap, Calls, Loops, WpFn, Tables}
 use ghost.Atoms.{Atoms, sem}
-use contract.Lifetimes.{Lfts}
 use contract.Monad.{Fun, fact}
 use contract.Running.{givenOf, tables, tablesOf}
 use types.Kit.{Given, ‵, raw, _⊛_, given, ⋆, some, later, _$_, _∵_, !, qed, by, move, drop, use1, use2, split, join, learn, pick, fsplit, fjoin, suffices, frame, await, done}
 use types.Part.{whole, sub, look-in}
 use types.Run.{look, init, forget, stop, fld, from, load, of-opd, and-then, no-more, assigns, land, returns, enter, alloc1, alloc0, params1, pass1, pass0, free1, free0}
 use sound.WpLaws.{FmC, fmOf, WpFn-mono}
-use denote.RattleType.{RattleType, owns}
+use denote.RattleType.{owns}
 use denote.Laws.{Is, shows}
 use denote.Plain.{uint-makes}
 use denote.Builtin.{u8, usize}
 use denote.Ref.{now}
-use denote.Signature.{namedLft}
 use denote.Slice.{sliceVal, ShrSlice}
 use denote.Steps.{owned, peeks, heard, nothing}
 use denote.Enum.Laws as EL
@@ -48,7 +45,7 @@ use Rattle.number.specs.Number.{Number, numberAt}
 use Rattle.number.specs.Says.{drawnSays}
 use Rattle.reader.specs.declared.Reader.{Reader}
 use Rattle.number.specs.declared.Drawn.{Drawn}
-use Rattle.reader.proofs.Reader as T
+use Rattle.reader.proofs.Held.{row, shape, laws, copied}
 use Rattle.reader.proofs.Reader.Laws as T′
 use Rattle.number.proofs.Drawn as S
 use Rattle.number.proofs.Drawn.Laws as S′
@@ -61,12 +58,8 @@ use Rattle.reader.proofs.Reader.draw as draw
 use Rattle.reader.proofs.Reader.draw.Statement as stated
 use Rattle.reader.proofs.Reader.draw.Code as code
 
--- the struct's type, over the signature's lifetimes
-abbrev B : Lfts 1 → RattleType
-B κs = T.the-row (namedLft 1 0 tt κs)
-
 abbrev stayed : Stays (draw.ended .signature .params) (draw.ended .kept)
-stayed = (stay-none B yes, tt)
+stayed = (stay-none row yes, tt)
 
 module _ {M : Type 1} (𝓤 : URA M) (H : Heap 𝓤) (A : Atoms 𝓤) (mem : Memory → SProp 𝓤) (run : Routine → Fun 𝓤) where
   -- the contract that the proof cites
@@ -88,14 +81,14 @@ module _ {M : Type 1} (𝓤 : URA M) (H : Heap 𝓤) (A : Atoms 𝓤) (W : Given
   Post = walkOf 𝓤 H A draw.ended stayed (draw.clauses 𝓤 H A mem run) .post (((κ, tt), (q, tt), tt, (d, tt), (mach ∷ [], tt)), tt)
 
   abbrev Own : Fml
-  Own = B (κ, tt) .own d (mach ∷ [])
+  Own = row (κ, tt) .own d (mach ∷ [])
 
-  -- the struct's type and laws, and d's fields' values
+  -- the types of the struct's fields with their laws, and d's fields' values
   abbrev D : Declared
-  D = T.the-type (namedLft 1 0 tt (κ, tt))
+  D = shape (κ, tt)
 
   abbrev L : LL.Laws D
-  L = T′.the-laws (namedLft 1 0 tt (κ, tt))
+  L = laws (κ, tt)
 
   abbrev vd : Values (D .parts)
   vd = (d .bytes, (d .at, tt))
@@ -113,8 +106,8 @@ module _ {M : Type 1} (𝓤 : URA M) (H : Heap 𝓤) (A : Atoms 𝓤) (W : Given
   -- what the struct owns gives what the callee asks, and is kept
   apart : d .at < 2 ^ 64 → ent 𝓤 (onEntry 𝓤 H A draw.signature (κ, tt) (q, tt) (d, tt) (mach ∷ [], tt)) (sep 𝓤 (NumberAt 𝓤 H A mem run .pre to) (sem 𝓤 H A Own))
   apart fits =
-      qed W ((‵ (flft κ q) ⊛ ‵ ftrue) ∷ ‵ (owns (B (κ, tt) ∷ []) (d, tt) (mach ∷ [], tt)) ∷ []) ∵
-      move ! (1 ∷ []) $ fsplit ! $ move ! (1 ∷ []) $ drop ! $ use1 W (‵ Own ⊛ ‵ Own) (LL.copy D (T′.the-copy (namedLft 1 0 tt (κ, tt))) 𝓤 H A W .twice d (mach ∷ [])) $ split ! $
+      qed W ((‵ (flft κ q) ⊛ ‵ ftrue) ∷ ‵ (owns (row (κ, tt) ∷ []) (d, tt) (mach ∷ [], tt)) ∷ []) ∵
+      move ! (1 ∷ []) $ fsplit ! $ move ! (1 ∷ []) $ drop ! $ use1 W (‵ Own ⊛ ‵ Own) (copied 𝓤 H A W (κ, tt) .twice d (mach ∷ [])) $ split ! $
       use1 W (given (mach ∷ [] ≡ mach ∷ []) (‵ (all-own (D .parts) L vd))) (own-open 𝓤 H A W D L vd mach) $ learn ! (λ _. use1 W (‵ (ownAt (D .parts) L 0 (d .bytes)) ⊛ ‵ (rest (D .parts) L 0 vd)) (own-out 𝓤 H A W (D .parts) L 0 vd) $ split ! $
       -- [what bytes owns; what at owns; what the struct owns; the token]
       move ! (1 ∷ []) $ drop ! $ nothing ! $ owned ! usize (Is usize) (uint-makes 𝓤 H A W w64) (d .at) _ (refl, fits) $ fjoin ! $ move ! (1 ∷ 0 ∷ []) $ fjoin ! $
@@ -150,13 +143,13 @@ module _ {M : Type 1} (𝓤 : URA M) (H : Heap 𝓤) (A : Atoms 𝓤) (W : Given
 module _ {M : Type 1} (𝓤 : URA M) (H : Heap 𝓤) (A : Atoms 𝓤) (W : Given 𝓤 H A) (mem : Memory → SProp 𝓤) (run : Routine → Fun 𝓤) where
   draw-walks : (C : Calls 𝓤 H) (Λ : Loops 𝓤 H) → FmC 𝓤 H (W .laws) C → Triple 𝓤 (C #number·number-at) (NumberAt 𝓤 H A mem run)
       → Walks 𝓤 H A draw.ended stayed (WpFn 𝓤 H C Λ code.function) (draw.clauses 𝓤 H A mem run)
-  draw-walks C Λ fm known = walked 𝓤 H A draw.ended stayed (draw.clauses 𝓤 H A mem run) (WpFn 𝓤 H C Λ code.function) (λ κs. (LL.vals (T.the-type (namedLft 1 0 tt κs)) (T′.the-laws (namedLft 1 0 tt κs)), tt)) (λ κs. (LL.tells (T.the-type (namedLft 1 0 tt κs)) (T′.the-laws (namedLft 1 0 tt κs)), tt))
-      (λ κs qs bounds a g are. via 𝓤 _ (fst∗ 𝓤 _ (emp 𝓤)) (walk 𝓤 H A W mem run (κs .0) (qs .0) (a .0) C Λ fm known (LL.lawful (T.the-type (namedLft 1 0 tt κs)) (T′.the-laws (namedLft 1 0 tt κs)) 𝓤 H A W .typed (a .0) _ (are .0) .0)))
+  draw-walks C Λ fm known = walked 𝓤 H A draw.ended stayed (draw.clauses 𝓤 H A mem run) (WpFn 𝓤 H C Λ code.function) (λ κs. (LL.vals (shape κs) (laws κs), tt)) (λ κs. (LL.tells (shape κs) (laws κs), tt))
+      (λ κs qs bounds a g are. via 𝓤 _ (fst∗ 𝓤 _ (emp 𝓤)) (walk 𝓤 H A W mem run (κs .0) (qs .0) (a .0) C Λ fm known (LL.lawful (shape κs) (laws κs) 𝓤 H A W .typed (a .0) _ (are .0) .0)))
 
 draw-meets : {M : Type 1} (𝓤 : URA M) (H : Heap 𝓤) (A : Atoms 𝓤) (W : Given 𝓤 H A) (mem : Memory → SProp 𝓤) (run : Routine → Fun 𝓤) (𝓣 : Tables 𝓤 H)
     → Triple 𝓤 (𝓣 .C #number·number-at) (NumberAt 𝓤 H A mem run)
     → Meets 𝓤 H A draw.signature (WpFn 𝓤 H (𝓣 .C) (𝓣 .Λ) code.function) (draw.spec 𝓤 H A mem run)
-draw-meets 𝓤 H A W mem run 𝓣 known-number-at = walk-meets 𝓤 H A draw.ended stayed W (goes-none 𝓤 H A W 1 B yes (λ κs x f. refl), tt) (draw.clauses 𝓤 H A mem run) (WpFn 𝓤 H (𝓣 .C) (𝓣 .Λ) code.function) (WpFn-mono 𝓤 H (W .laws) 𝓣 code.function)
+draw-meets 𝓤 H A W mem run 𝓣 known-number-at = walk-meets 𝓤 H A draw.ended stayed W (goes-none 𝓤 H A W 1 row yes (λ κs x f. refl), tt) (draw.clauses 𝓤 H A mem run) (WpFn 𝓤 H (𝓣 .C) (𝓣 .Λ) code.function) (WpFn-mono 𝓤 H (W .laws) 𝓣 code.function)
     (draw-walks 𝓤 H A W mem run (𝓣 .C) (𝓣 .Λ) (fmOf 𝓤 H (W .laws) 𝓣) known-number-at)
 
 pub draw-spec : {M : Type 1} → stated.statement M
