@@ -18,7 +18,7 @@ use rules::Refusal;
 fn positive_at(bytes: &[u8], at: usize) -> Drawn
     ensures { λ t. ⌜ drawnSays t ≡ positiveAt (now (bytes .entry)) at ⌝ }
 {
-    match number::number_at(bytes, at) {
+    match reader::draw_at(bytes, at) {
         Drawn::Refused(why) => Drawn::Refused(why),
         Drawn::Number(value, next) => {
             if value == 0 {
@@ -37,7 +37,7 @@ fn entry_at(bytes: &[u8], at: usize) -> Taken
         Drawn::Refused(why) => Taken::Refused(why),
         Drawn::Number(id, after_id) => match positive_at(bytes, after_id) {
             Drawn::Refused(why) => Taken::Refused(why),
-            Drawn::Number(quota, after_quota) => match number::number_at(bytes, after_quota) {
+            Drawn::Number(quota, after_quota) => match reader::draw_at(bytes, after_quota) {
                 Drawn::Refused(why) => Taken::Refused(why),
                 Drawn::Number(children, next) => Taken::Entry(id, quota, children, next),
             },
@@ -125,7 +125,7 @@ pub(crate) fn read_request(
 {
     match positive_at(bytes, 0) {
         Drawn::Refused(why) => Heard::Refused(why),
-        Drawn::Number(exploded, after_exploded) => match number::number_at(bytes, after_exploded) {
+        Drawn::Number(exploded, after_exploded) => match reader::draw_at(bytes, after_exploded) {
             Drawn::Refused(why) => Heard::Refused(why),
             Drawn::Number(direction, after_direction) => {
                 if 1 < direction {

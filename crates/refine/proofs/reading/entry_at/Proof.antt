@@ -24,8 +24,8 @@ enum-known-why-2 c = search needs
 enum-known-quota : tie.Need-enum-known-quota
 enum-known-quota c = search needs
 
-number-at-requires : tie.Need-number-at-requires
-number-at-requires c κs = search needs
+draw-at-requires : tie.Need-draw-at-requires
+draw-at-requires c κs = search needs
 
 enum-known-why-3 : tie.Need-enum-known-why-3
 enum-known-why-3 c = search needs
@@ -45,13 +45,13 @@ returns-3 : tie.Need-returns-3
 returns-3 c =
     entry-no-children _ _ (sym (ap drawnSays (c .before .before .before .before .before .before .before .before .before .id .given .1)) ∙ c .before .before .before .before .before .before .before .before .before .before .before .positive-at .ensures)
     (sym (ap drawnSays (c .before .before .before .before .before .quota .given .1)) ∙ c .before .before .before .before .before .before .before .positive-at2 .ensures)
-    (sym (ap drawnSays (c .before .why3 .given .1)) ∙ c .before .before .before .number-at .ensures)
+    (sym (ap drawnSays (c .before .why3 .given .1)) ∙ c .before .before .before .draw-at .ensures)
 
 returns-4 : tie.Need-returns-4
 returns-4 c =
     entry-found _ _ (sym (ap drawnSays (c .before .before .before .before .before .before .before .before .before .id .given .1)) ∙ c .before .before .before .before .before .before .before .before .before .before .before .positive-at .ensures)
     (sym (ap drawnSays (c .before .before .before .before .before .quota .given .1)) ∙ c .before .before .before .before .before .before .before .positive-at2 .ensures)
-    (sym (ap drawnSays (c .before .children .given .1)) ∙ c .before .before .before .number-at .ensures)
+    (sym (ap drawnSays (c .before .children .given .1)) ∙ c .before .before .before .draw-at .ensures)
 
 pub entry-at-spec : {M : Type 1} → statement M
 entry-at-spec =
@@ -63,7 +63,7 @@ entry-at-spec =
     positive-at-requires-2
     enum-known-why-2
     enum-known-quota
-    number-at-requires
+    draw-at-requires
     enum-known-why-3
     enum-known-children
     returns

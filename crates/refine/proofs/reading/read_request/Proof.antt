@@ -12,7 +12,7 @@ begun : (c : tie.Else1) → Begun (c .before .before .before .before .before .be
 begun c = record {
   after = c .before .before .before .before .before .before .exploded .given .0 .1 .0;
   first = sym (ap drawnSays (c .before .before .before .before .before .before .exploded .given .1)) ∙ c .before .before .before .before .before .before .before .before .positive-at .ensures;
-  second = sym (ap drawnSays (c .before .before .direction .given .1)) ∙ c .before .before .before .before .number-at .ensures;
+  second = sym (ap drawnSays (c .before .before .direction .given .1)) ∙ c .before .before .before .before .draw-at .ensures;
   known = c .if1 .left;
 }
 
@@ -25,8 +25,8 @@ enum-known-why c = search needs
 enum-known-exploded : tie.Need-enum-known-exploded
 enum-known-exploded c = search needs
 
-number-at-requires : tie.Need-number-at-requires
-number-at-requires c κs = search needs
+draw-at-requires : tie.Need-draw-at-requires
+draw-at-requires c κs = search needs
 
 enum-known-why-2 : tie.Need-enum-known-why-2
 enum-known-why-2 c = search needs
@@ -38,7 +38,7 @@ returns : tie.Need-returns
 returns c =
     unheard _ _
     (odd-direction _ (sym (ap drawnSays (c .before .before .before .before .before .before .exploded .given .1)) ∙ c .before .before .before .before .before .before .before .before .positive-at .ensures)
-    (sym (ap drawnSays (c .before .before .direction .given .1)) ∙ c .before .before .before .before .number-at .ensures)
+    (sym (ap drawnSays (c .before .before .direction .given .1)) ∙ c .before .before .before .before .draw-at .ensures)
     (c .if1 .taken))
 
 positive-at-requires-2 : tie.Need-positive-at-requires-2
@@ -85,7 +85,7 @@ returns-4 : tie.Need-returns-4
 returns-4 c =
     unheard _ _
     (no-direction _ (sym (ap drawnSays (c .before .before .before .before .before .exploded .given .1)) ∙ c .before .before .before .before .before .before .before .positive-at .ensures)
-    (sym (ap drawnSays (c .before .why2 .given .1)) ∙ c .before .before .before .number-at .ensures))
+    (sym (ap drawnSays (c .before .why2 .given .1)) ∙ c .before .before .before .draw-at .ensures))
 
 returns-5 : tie.Need-returns-5
 returns-5 c = unheard _ _ (no-count _ (begun (c .before .before .before .before)) (sym (ap drawnSays (c .before .why3 .given .1)) ∙ c .before .before .before .positive-at2 .ensures))
@@ -135,7 +135,7 @@ read-request-spec =
     positive-at-requires
     enum-known-why
     enum-known-exploded
-    number-at-requires
+    draw-at-requires
     enum-known-why-2
     enum-known-direction
     returns
