@@ -119,7 +119,7 @@ module _ {log : List ℕ} {from : ℕ} {c₀ : Columns} {text₀ : List ℕ} whe
         let r = g .room in
         let j = g .here in
         let s = length-append (g .done) line in
-        let few = count-within a (g .fitting .within) (λ x q. refined-within (g .fitting) (bytesIn log part) (sym ea ∙ q)) in
+        let few = count-within a (g .fitting .within) (λ x q. refined-within c count (bytesIn log part) (sym ea ∙ q)) in
         let step : requestsFrom (suc k) log at c count ≡ headed line (requestsFrom k log (part .end) d m) = rw (em, ed, ea) (goes-on log at c count k h e) in
         record {
           most = k;

@@ -21,11 +21,11 @@ use Rattle.refine.specs.Refine.{groupsOf, refineRows, explodedRows}
 use Rattle.refine.specs.Placing.{PlaceIn}
 use Rattle.refine.specs.Work.{Work, Told, listed}
 use Rattle.request.proofs.Accepting.{request-accepted}
-use Rattle.refine.proofs.After.{length-after}
+use Rattle.refine.proofs.After.{groups-length, length-after}
 use Rattle.refine.proofs.Lookup.{ids-distinct}
-use Rattle.refine.proofs.Entering.{stored-listed, quotas-stand}
+use Rattle.refine.proofs.Entering.{entries-listed}
 use Rattle.refine.proofs.PlacingLaws.{listed-step, listed-all, listed-end, count-here, count-past}
-use Rattle.refine.proofs.Written.{quota-at, map-self, groups-length}
+use Rattle.refine.proofs.Written.{quota-at}
 
 -- the groups of the table are the entries of its columns
 groups-from : (c : Columns) (i n : ℕ) → groupsOf (rowsFrom c i n) ≡ listed (c .id) (c .q) i n
@@ -59,12 +59,6 @@ pub refuses : (c : Columns) (found : Answer (List Row)) (k : ℕ) → found ≡ 
 refuses c found k e = (rw e, rw e)
 
 module _ (c : Columns) (n u own : ℕ) (a : Request) (w : Work) (up : Bool) (m s : ℕ) (told : Told w u up m s a) (good : checked c n ≡ answer (rows c n)) (p : PlaceIn (c .id) n u own) where
-  entries-listed : listed (w .ids) (w .quotas) 0 m ≡ entries a
-  entries-listed =
-      ap (listed (w .ids) (w .quotas) 0) (told .entries-are)
-      ∙ stored-listed w (w .quotas) (λ e. e .quota) 0 (a .trees) (told .stored) (quotas-stand w 0 (a .trees) (told .stored))
-      ∙ map-self (entries a)
-
   -- 20
   pub unknown : (room : ℕ) → own ≡ n → explodedRows room (rows c n) a ≡ refused 20
   unfolding explodedRows accepted
@@ -80,7 +74,7 @@ module _ (c : Columns) (n u own : ℕ) (a : Request) (w : Work) (up : Bool) (m s
 
   module _ (room : ℕ) (h : own < n) {k : ℕ} (times : k ≡ count u (listed (w .ids) (w .quotas) 0 m)) where
     entry-times : count (a .exploded) (entries a) ≡ k
-    entry-times = ap (λ x. count x (entries a)) (sym (told .exploded-is)) ∙ sym (times ∙ ap (count u) entries-listed)
+    entry-times = ap (λ x. count x (entries a)) (sym (told .exploded-is)) ∙ sym (times ∙ ap (count u) (entries-listed told))
 
     -- 21
     pub not-one : (k ≡ 1 → ⊥) → explodedRows room (rows c n) a ≡ refused 21
@@ -90,7 +84,7 @@ module _ (c : Columns) (n u own : ℕ) (a : Request) (w : Work) (up : Bool) (m s
     module _ (one : k ≡ 1) {t : Bool}
         (clash : t ≡ someEntry (λ e. not (eqb (e .id) u) && (has (e .id) (listed (c .id) (c .q) 0 n) || leb 2 (count (e .id) (listed (w .ids) (w .quotas) 0 m)))) (listed (w .ids) (w .quotas) 0 m)) where
       taken-is : someEntry (λ e. not (eqb (e .id) (a .exploded)) && (has (e .id) (groupsOf (rows c n)) || leb 2 (count (e .id) (entries a)))) (entries a) ≡ t
-      taken-is = rw (← (told .exploded-is), groups-from c 0 n, ← entries-listed) (sym clash)
+      taken-is = rw (← (told .exploded-is), groups-from c 0 n, ← (entries-listed told)) (sym clash)
 
       -- 22
       pub id-taken : t ≡ true → explodedRows room (rows c n) a ≡ refused 22
