@@ -1,15 +1,15 @@
 -- The laws of a grant list: where a grant ends, that the list is read to the bytes' end, and that none of its grants is bad.
 use mathlib.Core.Path.{_≡_, refl, ap, sym, _∙_}
-use mathlib.Core.Bool.{Bool, true, false}
+use mathlib.Core.Bool.{false}
 use mathlib.Core.List.{List, [], _∷_}
 use Prim.Native.Nat.{ℕ, zero, suc, _+_, _-_, _<_, _≤_}
 use native.Mathlib.Omega.{arith}
 use lib.ListN.{length}
 use borrow.Author.Tests.{le-leb, lt-leb}
-use Rattle.rules.specs.Answers.{Answer, answer, refused, then}
+use Rattle.rules.specs.Answers.{Answer, answer, then}
 use Rattle.rules.proofs.Answers.{same-answer, peel, then-answer, then-same}
 use Rattle.rules.proofs.Cases.{by-lt}
-use Rattle.number.specs.Number.{Number, numberAt}
+use Rattle.number.specs.Number.{numberAt}
 use Rattle.number.proofs.Laws.{number-ends}
 use Rattle.grant.specs.Grant.{Grant, GrantRead, grantBad, checkedGrant, grantAt, grantsFrom, grantsOf, someBad}
 

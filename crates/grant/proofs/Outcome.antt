@@ -1,7 +1,7 @@
 -- What is decided from a position of the grant list on, with a tally of the grants before it.
-use mathlib.Core.Path.{_≡_, refl, ap, sym, _∙_}
-use mathlib.Core.Bool.{Bool, true, false, cond}
-use mathlib.Core.List.{List, [], _∷_}
+use mathlib.Core.Path.{_≡_, refl, ap, _∙_}
+use mathlib.Core.Bool.{false}
+use mathlib.Core.List.{List}
 use Prim.Native.Nat.{ℕ, _-_, _<_, _≤_}
 use native.Mathlib.Omega.{arith}
 use lib.ListN.{length, take, drop, length-drop}
@@ -9,7 +9,7 @@ use lib.Seq.{take-all}
 use Rattle.rules.specs.Answers.{Answer, answer, refused, then}
 use Rattle.rules.proofs.Answers.{then-same}
 use Rattle.grant.specs.Grant.{Grant, GrantRead, grantAt, grantsOf}
-use Rattle.grant.specs.Decision.{Decision, window, windows, appliesTo, dated, questionBad, decided}
+use Rattle.grant.specs.Decision.{Decision, questionBad, decided}
 use Rattle.grant.specs.Tally.{tally, weigh, weighAll, told}
 use Rattle.grant.specs.declared.Tally.{Tally}
 use Rattle.grant.proofs.Listing.{inFront, grantsAt, grants-unfold, grants-done, grants-all, grants-good}

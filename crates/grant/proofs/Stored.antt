@@ -11,7 +11,7 @@ use Rattle.rules.proofs.Answers.{then-cond}
 use Rattle.number.specs.Number.{bytesOf}
 use Rattle.number.proofs.Laws.{number-back, number-count}
 use Rattle.grant.specs.Grant.{Grant, GrantRead, grantBad, checkedGrant, grantAt, grantsOf, grantBytes, grantsBytes, someBad, checkedGrants}
-use Rattle.grant.specs.Decision.{window, windows, appliesTo, dated, questionBad, decided, Decision}
+use Rattle.grant.specs.Decision.{window, windows, appliesTo, dated, questionBad, decided}
 use Rattle.grant.proofs.Listing.{inFront, grantsAt, grants-unfold, grants-done, grants-all}
 
 -- a grant of numbers that bytes can hold

@@ -2,14 +2,14 @@
 use mathlib.Core.Path.{_≡_, refl, ap, sym, _∙_}
 use mathlib.Core.Bool.{Bool, true, false, cond, not, _||_, or-true, or-false}
 use mathlib.Core.List.{List, [], _∷_}
-use Prim.Native.Nat.{ℕ, zero, suc, min, max, _<_, _≤_}
+use Prim.Native.Nat.{ℕ, min, max, _<_, _≤_}
 use native.Mathlib.Omega.{arith}
-use lib.Dec.{eqb, leb, ltb}
+use lib.Dec.{eqb}
 use borrow.Author.Tests.{eq-eqb, ne-eqb, lt-ltb, le-ltb, le-leb, lt-leb, eqb-false, ltb-true, ltb-false, not-true}
 use Rattle.rules.proofs.Cases.{by-lt, by-eq}
 use Rattle.rules.proofs.Bools.{or-none, and-both}
 use Rattle.grant.specs.Grant.{Grant, grantBad, someBad}
-use Rattle.grant.specs.Decision.{Window, window, windows, isOpen, runs, hasEnded, yetToBegin, those, someOpen, greatestLast, leastFirst, Decision, onOpen, onUntil, ended, ahead, tried, dated, appliesTo}
+use Rattle.grant.specs.Decision.{Window, window, windows, isOpen, runs, hasEnded, yetToBegin, those, someOpen, greatestLast, leastFirst, onOpen, onUntil, ended, ahead, tried, dated, appliesTo}
 use Rattle.grant.specs.Tally.{tally, earlier, countIn, weigh, weighAll, told}
 use Rattle.grant.specs.declared.Tally.{Tally}
 

@@ -6,16 +6,14 @@ use native.Mathlib.Omega.{arith}
 use lib.ListN.{length, length-append}
 use borrow.Author.Tests.{le-leb, lt-leb}
 use Rattle.rules.specs.Answers.{Answer, answer, refused}
-use Rattle.rules.specs.Limits.{mostRows}
 use Rattle.rules.specs.Buffers.{after}
 use Rattle.rules.proofs.Buffers.{after-all}
-use Rattle.table.specs.Columns.{Row, Columns, counted, afterwards}
+use Rattle.table.specs.Columns.{Columns, counted, afterwards}
 use Rattle.table.proofs.Writing.{after-same, after-then}
 use Rattle.refine.specs.Refine.{refined}
 use Rattle.growth.specs.Lines.{lineText}
 use Rattle.growth.specs.Growth.{Part, partAt, bytesIn, Growth, grown, headed, countAfter, partThen, requestThen, requestsFrom}
 use Rattle.growth.specs.Says.{Fitting, Carried}
-use Rattle.growth.specs.declared.Reached.{Reached}
 use Rattle.growth.proofs.Printing.{line-most}
 use Rattle.growth.proofs.Reading.{part-in, refined-within}
 

@@ -1,17 +1,17 @@
 -- The whole of a log: the fresh pair, the requests and the table, in a buffer that has room for any log of its length.
 use mathlib.Core.Path.{_≡_, refl, ap, sym, _∙_}
 use mathlib.Core.List.{List, _++_}
-use Prim.Native.Nat.{ℕ, _+_, _*_, _-_, _<_, _≤_}
+use Prim.Native.Nat.{ℕ, _+_, _*_, _<_, _≤_}
 use native.Mathlib.Omega.{arith}
 use lib.ListN.{length, length-append}
 use borrow.Author.Tests.{le-leb, lt-leb}
 use Rattle.rules.specs.Answers.{Answer, answer, refused}
 use Rattle.rules.specs.Buffers.{after}
 use Rattle.rules.proofs.Answers.{same-answer, then-answer, then-refused}
-use Rattle.table.specs.Columns.{Row, Columns, rows, put}
+use Rattle.table.specs.Columns.{Columns, rows, put}
 use Rattle.table.proofs.Rows.{rows-length}
 use Rattle.table.proofs.Writing.{after-then}
-use Rattle.growth.specs.Lines.{lineText, rowsText, tableText}
+use Rattle.growth.specs.Lines.{lineText, tableText}
 use Rattle.growth.specs.Growth.{Begun, begun, begunAt, begunTable, Growth, grown, requestsFrom, listed, growthFrom, growth, growText, growColumns, growRoom, growAnswer, growBuffer, growTable}
 use Rattle.growth.specs.Says.{Fitting, Carried}
 use Rattle.growth.specs.declared.Reached.{Reached}

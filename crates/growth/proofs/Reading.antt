@@ -1,18 +1,16 @@
 -- What is read of a log: its fresh pair, and where each request stands.
 use mathlib.Core.Path.{_≡_, refl, ap, sym, _∙_}
-use mathlib.Core.Bool.{false, _||_}
-use mathlib.Core.List.{List, []}
+use mathlib.Core.Bool.{_||_}
+use mathlib.Core.List.{List}
 use Prim.Native.Nat.{ℕ, _+_, _-_, _<_, _≤_}
 use native.Mathlib.Omega.{arith}
 use lib.Dec.{eqb, ltb}
 use lib.ListN.{length}
 use borrow.Author.Tests.{ltb-false, lt-ltb, le-ltb}
-use Rattle.rules.specs.Answers.{Answer, answer, refused, then}
-use Rattle.rules.specs.Limits.{mostRows}
+use Rattle.rules.specs.Answers.{Answer, answer, refused}
 use Rattle.rules.proofs.Answers.{same-answer, peel, then-answer}
-use Rattle.number.specs.Number.{Number, found, numberAt}
+use Rattle.number.specs.Number.{found, numberAt}
 use Rattle.number.proofs.Laws.{number-ends}
-use Rattle.request.specs.Request.{Request}
 use Rattle.request.specs.Reading.{requestOf}
 use Rattle.request.specs.Acceptance.{accepted}
 use Rattle.request.proofs.Accepting.{request-accepted}
@@ -21,7 +19,7 @@ use Rattle.table.specs.Check.{lengthsBad, checked, soundRows}
 use Rattle.table.specs.Fresh.{freshRows}
 use Rattle.table.proofs.Lengths.{Lengths, lengths-good}
 use Rattle.table.proofs.Passing.{check-passed, rows-good}
-use Rattle.refine.specs.Refine.{groupsOf, refineRows, explodedRows, refined}
+use Rattle.refine.specs.Refine.{groupsOf, explodedRows, refined}
 use Rattle.refine.proofs.Refinement.{promises}
 use Rattle.growth.specs.Growth.{Part, partAt, Begun, begun, begunAt, begunTable}
 use Rattle.growth.specs.Says.{Countable, Fitting}

@@ -1,7 +1,7 @@
 -- `growRoom` is enough: the text of a log has at most 14 bytes for each byte of the log, and 16384 for the table.
-use mathlib.Core.Path.{_≡_, refl, ap, sym, _∙_}
+use mathlib.Core.Path.{_≡_, refl, ap, _∙_}
 use mathlib.Core.Bool.{Bool, true, false, cond}
-use mathlib.Core.List.{List, [], _++_, map}
+use mathlib.Core.List.{List, [], _++_}
 use Prim.Native.Nat.{ℕ, zero, suc, _+_, _*_, _-_, _<_, _≤_}
 use native.Mathlib.Omega.{arith}
 use lib.Dec.{leb}
@@ -11,12 +11,12 @@ use Rattle.rules.specs.Answers.{Answer, answer, refused}
 use Rattle.rules.specs.Limits.{mostRows}
 use Rattle.rules.proofs.Answers.{same-answer, never-refused}
 use Rattle.rules.proofs.Cases.{by-lt}
-use Rattle.table.specs.Columns.{Row, Columns, overlay, rows, put, counted, afterwards}
+use Rattle.table.specs.Columns.{Row, Columns, rows, put, counted, afterwards}
 use Rattle.table.proofs.Rows.{rows-length}
 use Rattle.refine.specs.Refine.{refined}
 use Rattle.refine.proofs.Held.{put-length}
 use Rattle.growth.specs.Lines.{lineText, tableText}
-use Rattle.growth.specs.Growth.{Part, partAt, bytesIn, Begun, begun, Growth, grown, headed, countAfter, requestsFrom, listed, growth, growText, growRoom, growAnswer}
+use Rattle.growth.specs.Growth.{Part, partAt, bytesIn, Begun, begun, Growth, grown, countAfter, requestsFrom, growText, growRoom, growAnswer}
 use Rattle.growth.proofs.Printing.{line-most, rows-most, table-count}
 use Rattle.growth.proofs.Reading.{part-in, refined-fits, refined-within, begun-in}
 use Rattle.growth.proofs.Carrying.{stop, bad, goes-on, count-within}

@@ -16,9 +16,8 @@ use Rattle.request.specs.Acceptance.{idTaken, accepted}
 use Rattle.request.proofs.Sums.{same-length}
 use Rattle.request.proofs.Accepting.{request-accepted}
 use Rattle.table.specs.Columns.{Row}
-use Rattle.table.specs.Order.{rowOf, orderIn, subgroup}
+use Rattle.table.specs.Order.{rowOf, orderIn}
 use Rattle.refine.specs.Refine.{groupsOf}
-use Rattle.refine.specs.Theorems.{subgroupIn}
 use Rattle.refine.proofs.Lookup.{rowIn, id-row}
 use Rattle.refine.proofs.Refinement.{by-rows}
 use Rattle.ledger.specs.Ledger.{Ledger, acceptedBy, ledgerOrder}

@@ -1,15 +1,15 @@
 -- A decision by noted numbers and one by the ledger's order agree where the numbers compare as the order says.
-use mathlib.Core.Path.{_≡_, refl, ap, sym, _∙_}
-use mathlib.Core.Bool.{Bool, true, false, cond, not, _&&_, _||_}
+use mathlib.Core.Path.{_≡_, refl, ap, _∙_}
+use mathlib.Core.Bool.{Bool, false, _&&_}
 use mathlib.Core.List.{List, [], _∷_}
 use Prim.Native.Nat.{ℕ, _≤_}
 use native.Mathlib.Omega.{arith}
-use lib.Dec.{eqb, leb, ltb}
+use lib.Dec.{eqb, leb}
 use borrow.Author.Tests.{ne-eqb}
-use Rattle.rules.specs.Answers.{Answer, answer, refused, then}
+use Rattle.rules.specs.Answers.{answer}
 use Rattle.rules.proofs.Answers.{then-cond}
 use Rattle.grant.specs.Grant.{Grant, grant, grantBad, grantsBytes, someBad, checkedGrants}
-use Rattle.grant.specs.Decision.{Window, window, windows, appliesTo, Decision, dated, questionBad, decided}
+use Rattle.grant.specs.Decision.{window, windows, appliesTo, dated, questionBad, decided}
 use Rattle.grant.proofs.Stored.{Fits, AllFit, decided-back}
 use Rattle.ledger.specs.Ledger.{Ledger}
 use Rattle.ledger.specs.Decisions.{Held, days, heldBad, someHeldBad, appliesBy, ledgerDecided, Each}

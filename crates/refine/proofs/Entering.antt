@@ -2,12 +2,12 @@
 use mathlib.Core.Path.{_≡_, refl, ap, ap₂, sym, _∙_}
 use mathlib.Core.Bool.{Bool}
 use mathlib.Core.List.{List, [], _∷_, _++_, map, map-append}
-use Prim.Native.Nat.{ℕ, zero, suc, _+_, _≤_, _<_}
+use Prim.Native.Nat.{ℕ, zero, suc, _+_}
 use native.Mathlib.Omega.{arith}
 use native.Mathlib.Numerals.{add-one}
 use lib.ListN.{length, getD}
 use lib.Seq.{getD-append-seam, append-snoc}
-use Rattle.request.specs.Entries.{Entry, entry, sum, noQuota, pick, Positive}
+use Rattle.request.specs.Entries.{Entry, entry, noQuota, pick, Positive}
 use Rattle.request.specs.Forest.{Forest, none, tree, preL}
 use Rattle.request.specs.Numbering.{size}
 use Rattle.request.specs.Request.{Request, entries}

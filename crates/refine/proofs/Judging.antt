@@ -1,22 +1,21 @@
 -- The refusals 20 to 24 of a request in the work columns, from what the code finds.
-use mathlib.Core.Path.{_≡_, refl, ap, ap₂, sym, _∙_}
-use mathlib.Core.Bool.{Bool, true, false, not, cond, _&&_, _||_}
-use mathlib.Core.List.{List, [], _∷_, map}
+use mathlib.Core.Path.{_≡_, refl, ap, sym, _∙_}
+use mathlib.Core.Bool.{Bool, true, false, not, _&&_, _||_}
+use mathlib.Core.List.{List, _∷_}
 use Prim.Native.Nat.{ℕ, zero, suc, _+_, _-_, _≤_, _<_}
 use native.Mathlib.Omega.{arith}
 use lib.Dec.{eqb, leb}
 use lib.ListN.{length, getD}
-use borrow.Author.Tests.{eq-eqb, ne-eqb, le-leb, lt-leb, lt-ltb, le-ltb}
+use borrow.Author.Tests.{eq-eqb, ne-eqb, le-leb, lt-ltb, le-ltb}
 use Rattle.rules.specs.Answers.{Answer, answer, refused}
-use Rattle.request.specs.Entries.{Entry, entry, pick, count, has, quotaOf, total, someEntry}
-use Rattle.request.specs.Numbering.{size, whole}
+use Rattle.request.specs.Entries.{entry, count, has, quotaOf, total, someEntry}
 use Rattle.request.specs.Request.{Request, entries}
 use Rattle.request.specs.Acceptance.{accepted}
 use Rattle.request.proofs.Numbering.{size-length, whole-total}
-use Rattle.table.specs.Columns.{Row, Columns, columns, rowAt, rowsFrom, rows, counted, afterwards}
+use Rattle.table.specs.Columns.{Row, Columns, rowsFrom, rows, counted, afterwards}
 use Rattle.table.specs.Check.{checked}
 use Rattle.table.proofs.Rows.{rows-length}
-use Rattle.table.proofs.Passing.{Passed, check-passed}
+use Rattle.table.proofs.Passing.{check-passed}
 use Rattle.refine.specs.Refine.{groupsOf, refineRows, explodedRows}
 use Rattle.refine.specs.Placing.{PlaceIn}
 use Rattle.refine.specs.Work.{Work, Told, listed}

@@ -1,21 +1,19 @@
 -- The columns that the code writes hold the rows of the definition.
 use mathlib.Core.Path.{_≡_, refl, ap, ap₂, sym, _∙_}
-use mathlib.Core.Bool.{Bool, true, false, cond, true≢false}
+use mathlib.Core.Bool.{true, false, cond, true≢false}
 use mathlib.Core.List.{List, [], _∷_, _++_, map, map-append, map-map}
-use Prim.Native.Nat.{ℕ, zero, suc, _+_, _-_, _≤_, _<_}
+use Prim.Native.Nat.{ℕ, zero, suc, _+_, _≤_, _<_}
 use native.Mathlib.Omega.{arith}
-use native.Mathlib.Numerals.{add-one}
 use lib.Dec.{eqb}
 use lib.ListN.{length, getD, set, take, drop, length-set, length-append, length-map}
 use lib.Seq.{sets, sets-eq, set-comm, drop-cons, drop-set-lt, getD-set-same, getD-set-other, length-take-le}
-use borrow.Author.Tests.{eq-eqb, ne-eqb, eqb-true, eqb-false}
+use borrow.Author.Tests.{eq-eqb, ne-eqb}
 use Rattle.rules.proofs.Cases.{by-lt, by-eq}
 use Rattle.request.specs.Entries.{Entry, entry, pick, count, quotaOf}
 use Rattle.request.specs.Request.{Request, entries}
 use Rattle.request.proofs.Sums.{quota-none}
 use Rattle.table.specs.Columns.{Row, Columns, rowAt, rowsFrom, rows, overlay}
-use Rattle.table.specs.Check.{someRow, somePair, sameId}
-use Rattle.table.proofs.Rows.{rows-length}
+use Rattle.table.specs.Check.{somePair, sameId}
 use Rattle.table.proofs.Tests.{some-found, pair-found}
 use Rattle.refine.specs.Refine.{without, rowFor, keptRows, newRows, refineRows, lOf, rOf}
 use Rattle.refine.specs.Placing.{placed}

@@ -1,31 +1,29 @@
 -- The four columns after an accepted request.
-use mathlib.Core.Path.{_≡_, refl, ap, ap₂, sym, _∙_}
-use mathlib.Core.Bool.{Bool, true, false, cond}
+use mathlib.Core.Path.{_≡_, refl, ap, sym, _∙_}
+use mathlib.Core.Bool.{Bool, true, false}
 use mathlib.Core.List.{List, [], _∷_, _++_, map}
 use Prim.Native.Nat.{ℕ, zero, suc, _+_, _-_, _≤_, _<_}
 use native.Mathlib.Omega.{arith}
-use native.Mathlib.Numerals.{add-one}
 use lib.Dec.{eqb}
 use lib.ListN.{length, getD}
 use borrow.Author.Tests.{eq-eqb, ne-eqb, eqb-true}
-use Rattle.rules.specs.Answers.{Answer, answer}
-use Rattle.request.specs.Entries.{Entry, entry, pick, count, quotaOf, before, Positive, Distinct}
-use Rattle.request.specs.Forest.{preL, left, right}
-use Rattle.request.specs.Numbering.{size, whole, lefts, rights}
+use Rattle.rules.specs.Answers.{answer}
+use Rattle.request.specs.Entries.{Entry, entry, pick, count, quotaOf, before, Distinct}
+use Rattle.request.specs.Numbering.{whole, lefts, rights}
 use Rattle.request.specs.Request.{Request, entries, leftOf, rightOf}
 use Rattle.request.specs.Acceptance.{accepted}
 use Rattle.request.proofs.Accepting.{Accepted, request-accepted}
 use Rattle.request.proofs.Sums.{quota-none}
 use Rattle.request.proofs.Numbering.{size-length, whole-total, lefts-are, rights-are}
 use Rattle.table.specs.Columns.{Row, Columns, columns, rowAt, rowsFrom, rows, put, overlay}
-use Rattle.table.specs.Check.{checked, somePair, sameId}
+use Rattle.table.specs.Check.{checked}
 use Rattle.table.proofs.Rows.{rows-length}
 use Rattle.table.specs.Sound.{SoundRow}
 use Rattle.table.proofs.Passing.{Passed, check-passed}
 use Rattle.table.proofs.Soundness.{check-sound}
 use Rattle.refine.specs.Refine.{groupsOf, lOf, rOf, rowFor, refineRows}
 use Rattle.refine.specs.Placing.{placed, PlaceIn}
-use Rattle.refine.specs.Work.{Work, Stored, Told, Boxed, listed, directionBy}
+use Rattle.refine.specs.Work.{Work, Told, Boxed, listed, directionBy}
 use Rattle.refine.proofs.Lookup.{rowIn, l-row, r-row, quota-row, ids-distinct}
 use Rattle.refine.proofs.After.{groups-length}
 use Rattle.refine.proofs.Placement.{count-map, column-after}

@@ -1,17 +1,17 @@
 -- What a request that was read promises.
 use mathlib.Core.Path.{_≡_, refl, ap}
-use mathlib.Core.Bool.{Bool, true, false, cond}
+use mathlib.Core.Bool.{Bool, true, false}
 use mathlib.Core.List.{List}
 use Prim.Native.Nat.{ℕ, zero, suc, _+_, _≤_, _<_}
 use native.Mathlib.Omega.{arith}
 use lib.Dec.{eqb, ltb, leb}
 use lib.ListN.{length, length-append}
 use borrow.Author.Tests.{eqb-false, ltb-true, ne-eqb}
-use Rattle.rules.specs.Answers.{Answer, answer, refused, then}
+use Rattle.rules.specs.Answers.{Answer, answer}
 use Rattle.rules.specs.Limits.{mostEntries, greatestDepth}
 use Rattle.rules.proofs.Answers.{same-answer, never-refused, peel, wanted, then-answer}
 use Rattle.number.specs.Number.{Number, numberAt}
-use Rattle.request.specs.Entries.{entry, pick, oneAt, noQuota, count, Positive}
+use Rattle.request.specs.Entries.{pick, oneAt, noQuota, count, Positive}
 use Rattle.request.specs.Forest.{Forest, none, tree, preL}
 use Rattle.request.specs.Request.{Request, entries}
 use Rattle.request.specs.Reading.{positiveAt, EntryRead, entryAt, TreesRead, treesBy, treesAt, requestOf}

@@ -1,5 +1,5 @@
 -- `growth::logs::start` meets its contract: two numbers, and then fresh.
-use mathlib.Core.Path.{_≡_, ap, sym, _∙_}
+use mathlib.Core.Path.{ap, sym, _∙_}
 use denote.Ref.{now}
 use Rattle.rules.proofs.Answers.{then-answer, then-refused}
 use Rattle.number.specs.Says.{drawnSays}
