@@ -9,7 +9,7 @@ use Rattle.table.specs.Fresh.{freshRows}
 use Rattle.table.specs.Order.{Order, order}
 use Rattle.grant.specs.Grant.{Grant, grantsBytes}
 use Rattle.grant.specs.Decision.{Decision, decided}
-use Rattle.ledger.specs.Calls.{Call, refine, Reply, refineSays, engineStart, engineReplies, engineEnd, rowsIn}
+use Rattle.ledger.specs.Calls.{refine, Reply, refineSays, engineStart, engineReplies, engineEnd, rowsIn}
 
 pub data Case : Type 0 where
   -- a number and its stored bytes

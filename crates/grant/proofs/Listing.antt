@@ -1,32 +1,17 @@
 -- The laws of a grant list: where a grant ends, that the list is read to the bytes' end, and that none of its grants is bad.
 use mathlib.Core.Path.{_≡_, refl, ap, sym, _∙_}
-use mathlib.Core.Bool.{Bool, true, false}
+use mathlib.Core.Bool.{false}
 use mathlib.Core.List.{List, [], _∷_}
 use Prim.Native.Nat.{ℕ, zero, suc, _+_, _-_, _<_, _≤_}
 use native.Mathlib.Omega.{arith}
 use lib.ListN.{length}
 use borrow.Author.Tests.{le-leb, lt-leb}
-use Rattle.rules.specs.Answers.{Answer, answer, refused, then}
-use Rattle.rules.proofs.Answers.{same-answer, never-refused, peel}
+use Rattle.rules.specs.Answers.{Answer, answer, then}
+use Rattle.rules.proofs.Answers.{same-answer, peel, then-answer, then-same}
 use Rattle.rules.proofs.Cases.{by-lt}
-use Rattle.number.specs.Number.{Number, numberAt}
+use Rattle.number.specs.Number.{numberAt}
 use Rattle.number.proofs.Laws.{number-ends}
 use Rattle.grant.specs.Grant.{Grant, GrantRead, grantBad, checkedGrant, grantAt, grantsFrom, grantsOf, someBad}
-
-module _ {A B : Type 0} where
-  -- an answer that came through another
-  pub record Through (a : Answer A) (f : A → Answer B) (b : B) : Type 0 where
-    pub value : A
-    pub first : a ≡ answer value
-    pub rest : f value ≡ answer b
-
-  pub through : (a : Answer A) (f : A → Answer B) {b : B} → then a f ≡ answer b → Through a f b
-  through (answer x) f e = record { value = x; first = refl; rest = e }
-  through (refused n) f e = never-refused e
-
-  pub then-same : (a : Answer A) (f g : A → Answer B) → ((x : A) → a ≡ answer x → f x ≡ g x) → then a f ≡ then a g
-  then-same (answer x) f g h = h x refl
-  then-same (refused n) f g h = refl
 
 -- a grant ends after the position where it starts, and within the bytes, and is not bad
 pub record GrantStands (bytes : List ℕ) (at : ℕ) (g : GrantRead) : Type 0 where
@@ -37,17 +22,17 @@ pub record GrantStands (bytes : List ℕ) (at : ℕ) (g : GrantRead) : Type 0 wh
 pub grant-stands : (bytes : List ℕ) (at : ℕ) {g : GrantRead} → grantAt bytes at ≡ answer g → GrantStands bytes at g
 unfolding grantAt checkedGrant
 grant-stands bytes at e =
-    let a = through (numberAt bytes at) _ e in
-    let b = through (numberAt bytes (a .value .next)) _ (a .rest) in
-    let c = through (numberAt bytes (b .value .next)) _ (b .rest) in
-    let d = through (numberAt bytes (c .value .next)) _ (c .rest) in
-    let l = through (numberAt bytes (d .value .next)) _ (d .rest) in
-    let p = peel (grantBad _) 14 _ (l .rest) in
-    let ea = number-ends bytes at (a .first) in
-    let eb = number-ends bytes (a .value .next) (b .first) in
-    let ec = number-ends bytes (b .value .next) (c .first) in
-    let ed = number-ends bytes (c .value .next) (d .first) in
-    let el = number-ends bytes (d .value .next) (l .first) in
+    let a = then-answer (numberAt bytes at) _ e in
+    let b = then-answer (numberAt bytes (a .0 .next)) _ (a .2) in
+    let c = then-answer (numberAt bytes (b .0 .next)) _ (b .2) in
+    let d = then-answer (numberAt bytes (c .0 .next)) _ (c .2) in
+    let l = then-answer (numberAt bytes (d .0 .next)) _ (d .2) in
+    let p = peel (grantBad _) 14 _ (l .2) in
+    let ea = number-ends bytes at (a .1) in
+    let eb = number-ends bytes (a .0 .next) (b .1) in
+    let ec = number-ends bytes (b .0 .next) (c .1) in
+    let ed = number-ends bytes (c .0 .next) (d .1) in
+    let el = number-ends bytes (d .0 .next) (l .1) in
     let g = same-answer (p .1) in
     let n = ap (λ (r : GrantRead). r .next) g in
     record { starts = omega arith; ends = omega arith; good = ap (λ (r : GrantRead). grantBad (r .grant)) (sym g) ∙ p .0 }
@@ -109,11 +94,11 @@ from-good zero bytes at e = ap someBad (sym (same-answer e))
 from-good (suc n) bytes at e =
     by-lt at (length bytes)
     (λ l.
-    let a = through (grantAt bytes at) _ (sym (from-more n bytes at l) ∙ e) in
-    let b = through (grantsFrom n bytes (a .value .next)) _ (a .rest) in
-    let s = grant-stands bytes at (a .first) in
-    let t = from-good n bytes (a .value .next) (b .first) in
-    ap someBad (sym (same-answer (b .rest))) ∙ rw (s .good) t)
+    let a = then-answer (grantAt bytes at) _ (sym (from-more n bytes at l) ∙ e) in
+    let b = then-answer (grantsFrom n bytes (a .0 .next)) _ (a .2) in
+    let s = grant-stands bytes at (a .1) in
+    let t = from-good n bytes (a .0 .next) (b .1) in
+    ap someBad (sym (same-answer (b .2))) ∙ rw (s .good) t)
     (λ l. ap someBad (sym (same-answer (sym (from-end (suc n) bytes at l) ∙ e))))
 
 -- no grant of a list that reads in is bad

@@ -1,17 +1,18 @@
 -- What is decided from a position of the grant list on, with a tally of the grants before it.
-use mathlib.Core.Path.{_≡_, refl, ap, sym, _∙_}
-use mathlib.Core.Bool.{Bool, true, false, cond}
-use mathlib.Core.List.{List, [], _∷_}
+use mathlib.Core.Path.{_≡_, refl, ap, _∙_}
+use mathlib.Core.Bool.{false}
+use mathlib.Core.List.{List}
 use Prim.Native.Nat.{ℕ, _-_, _<_, _≤_}
 use native.Mathlib.Omega.{arith}
 use lib.ListN.{length, take, drop, length-drop}
 use lib.Seq.{take-all}
 use Rattle.rules.specs.Answers.{Answer, answer, refused, then}
+use Rattle.rules.proofs.Answers.{then-same}
 use Rattle.grant.specs.Grant.{Grant, GrantRead, grantAt, grantsOf}
-use Rattle.grant.specs.Decision.{Decision, window, windows, appliesTo, dated, questionBad, decided}
+use Rattle.grant.specs.Decision.{Decision, questionBad, decided}
 use Rattle.grant.specs.Tally.{tally, weigh, weighAll, told}
 use Rattle.grant.specs.declared.Tally.{Tally}
-use Rattle.grant.proofs.Listing.{then-same, inFront, grantsAt, grants-unfold, grants-done, grants-all, grants-good}
+use Rattle.grant.proofs.Listing.{inFront, grantsAt, grants-unfold, grants-done, grants-all, grants-good}
 use Rattle.grant.proofs.Tallies.{tally-decides}
 
 module _ (feature l r day : ℕ) (bytes : List ℕ) where
@@ -33,16 +34,11 @@ module _ (feature l r day : ℕ) (bytes : List ℕ) where
   pub outcome-more : (at : ℕ) (t : Tally) {g : GrantRead} → at < length bytes → grantAt bytes at ≡ answer g
       → outcome at t ≡ outcome (g .next) (weigh feature l r day t (g .grant))
   unfolding outcome
-  outcome-more at t {g} h e =
-      ap (λ (a : Answer (List Grant)). then a (endsAs t))
-      (grants-unfold bytes at h ∙ ap (λ (a : Answer GrantRead). then a (λ (g : GrantRead). inFront g (grantsAt bytes (g .next)))) e)
-      ∙ joined g (grantsAt bytes (g .next)) t
+  outcome-more at t {g} h e = rw (grants-unfold bytes at h, e) (joined g (grantsAt bytes (g .next)) t)
 
   pub outcome-refused : (at : ℕ) (t : Tally) {n : ℕ} → at < length bytes → grantAt bytes at ≡ refused n → outcome at t ≡ refused n
   unfolding outcome
-  outcome-refused at t h e =
-      ap (λ (a : Answer (List Grant)). then a (endsAs t))
-      (grants-unfold bytes at h ∙ ap (λ (a : Answer GrantRead). then a (λ (g : GrantRead). inFront g (grantsAt bytes (g .next)))) e)
+  outcome-refused at t h e = rw (grants-unfold bytes at h, e)
 
   -- past 15, the outcome from the start is what is decided
   pub outcome-decided : questionBad feature l r day ≡ false → outcome 0 (tally false 0 0 0) ≡ decided feature l r day bytes

@@ -7,10 +7,11 @@ use native.Mathlib.Omega.{arith}
 use lib.ListN.{length, length-append}
 use Rattle.rules.specs.Answers.{Answer, answer, refused, then}
 use Rattle.rules.specs.Limits.{greatest}
+use Rattle.rules.proofs.Answers.{then-cond}
 use Rattle.number.specs.Number.{bytesOf}
 use Rattle.number.proofs.Laws.{number-back, number-count}
 use Rattle.grant.specs.Grant.{Grant, GrantRead, grantBad, checkedGrant, grantAt, grantsOf, grantBytes, grantsBytes, someBad, checkedGrants}
-use Rattle.grant.specs.Decision.{window, windows, appliesTo, dated, questionBad, decided, Decision}
+use Rattle.grant.specs.Decision.{window, windows, appliesTo, dated, questionBad, decided}
 use Rattle.grant.proofs.Listing.{inFront, grantsAt, grants-unfold, grants-done, grants-all}
 
 -- a grant of numbers that bytes can hold
@@ -55,14 +56,10 @@ front-checked : (g : Grant) (gs : List Grant) (next : ℕ) (rest : ℕ → Answe
 unfolding checkedGrant checkedGrants someBad
 front-checked g gs next rest e = go (grantBad g)
   where
-    others : (b : Bool) → then (cond b (refused 14) (answer gs)) (λ (t : List Grant). answer (g ∷ t)) ≡ cond b (refused 14) (answer (g ∷ gs))
-    others true = refl
-    others false = refl
-
     go : (b : Bool) → then (cond b (refused 14) (answer (record { grant = g; next = next }))) (λ (r : GrantRead). inFront r (rest (r .next)))
         ≡ cond (b || someBad gs) (refused 14) (answer (g ∷ gs))
     go true = refl
-    go false = ap (λ (a : Answer (List Grant)). then a (λ (t : List Grant). answer (g ∷ t))) e ∙ others (someBad gs)
+    go false = ap (λ (a : Answer (List Grant)). then a (λ (t : List Grant). answer (g ∷ t))) e ∙ then-cond (someBad gs) 14 gs _
 
 from-back : (gs : List Grant) (before : List ℕ) → AllFit gs → grantsAt (before ++ grantsBytes gs) (length before) ≡ checkedGrants gs
 unfolding grantsBytes checkedGrants someBad

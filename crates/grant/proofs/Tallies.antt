@@ -1,15 +1,15 @@
 -- One pass over the grants keeps what the decision asks.
 use mathlib.Core.Path.{_≡_, refl, ap, sym, _∙_}
-use mathlib.Core.Bool.{Bool, true, false, cond, not, _&&_, _||_}
+use mathlib.Core.Bool.{Bool, true, false, cond, not, _||_, or-true, or-false}
 use mathlib.Core.List.{List, [], _∷_}
-use Prim.Native.Nat.{ℕ, zero, suc, min, max, _<_, _≤_}
+use Prim.Native.Nat.{ℕ, min, max, _<_, _≤_}
 use native.Mathlib.Omega.{arith}
-use lib.Dec.{eqb, leb, ltb}
+use lib.Dec.{eqb}
 use borrow.Author.Tests.{eq-eqb, ne-eqb, lt-ltb, le-ltb, le-leb, lt-leb, eqb-false, ltb-true, ltb-false, not-true}
 use Rattle.rules.proofs.Cases.{by-lt, by-eq}
 use Rattle.rules.proofs.Bools.{or-none, and-both}
 use Rattle.grant.specs.Grant.{Grant, grantBad, someBad}
-use Rattle.grant.specs.Decision.{Window, window, windows, isOpen, runs, hasEnded, yetToBegin, those, someOpen, greatestLast, leastFirst, Decision, onOpen, onUntil, ended, ahead, tried, dated, appliesTo}
+use Rattle.grant.specs.Decision.{Window, window, windows, isOpen, runs, hasEnded, yetToBegin, those, someOpen, greatestLast, leastFirst, onOpen, onUntil, ended, ahead, tried, dated, appliesTo}
 use Rattle.grant.specs.Tally.{tally, earlier, countIn, weigh, weighAll, told}
 use Rattle.grant.specs.declared.Tally.{Tally}
 
@@ -62,14 +62,6 @@ kept day t ws = summary t (those (runs day) ws) (those (hasEnded day) ws) (those
 pub same-tally : {x x′ : Bool} {a a′ b b′ d d′ : ℕ} → x ≡ x′ → a ≡ a′ → b ≡ b′ → d ≡ d′ → tally x a b d ≡ tally x′ a′ b′ d′
 same-tally e f g h = cc
 
-or-false : (b : Bool) → (b || false) ≡ b
-or-false true = refl
-or-false false = refl
-
-or-true : (b c : Bool) → (b || (true || c)) ≡ true
-or-true true c = refl
-or-true false c = refl
-
 module _ (day : ℕ) (t : Tally) (w : Window) (ws : List Window) (right : Right w) where
   step-coming : day < w .first → kept day (countIn t (w .first) (w .last) day) ws ≡ kept day t (w ∷ ws)
   unfolding countIn soonest runs hasEnded yetToBegin isOpen
@@ -88,7 +80,7 @@ module _ (day : ℕ) (t : Tally) (w : Window) (ws : List Window) (right : Right 
       let notOver : hasEnded day w ≡ false = rw e in
       let no : yetToBegin day w ≡ false = le-ltb _ _ h in
       rw (those-yes (runs day) w ws yes, those-no (hasEnded day) w ws notOver, those-no (yetToBegin day) w ws no, le-ltb _ _ h, e)
-      (same-tally (sym (or-true (t .endless) (someOpen (those (runs day) ws)))) (ap (λ (n : ℕ). greatestLast n (those (runs day) ws)) (sym m)) refl refl)
+      (same-tally (sym (or-true (t .endless))) (ap (λ (n : ℕ). greatestLast n (those (runs day) ws)) (sym m)) refl refl)
 
   step-over : w .first ≤ day → (w .last ≡ 0 → ⊥) → w .last < day → kept day (countIn t (w .first) (w .last) day) ws ≡ kept day t (w ∷ ws)
   unfolding countIn greatestLast runs hasEnded yetToBegin isOpen

@@ -1,12 +1,12 @@
 -- Decisions (document 01, "Grants and decisions"), in two steps: the windows of the grants that apply, in list order; then what the
 -- windows say on a day. What "applies" means is a parameter, so that a pass's numbers and the ledger's order share the rest.
 use Prim.Native.Nat.{ℕ, min, max}
-use mathlib.Core.Bool.{Bool, true, false, cond, not, _&&_, _||_}
+use mathlib.Core.Bool.{Bool, false, cond, not, _&&_, _||_}
 use mathlib.Core.List.{List, [], _∷_}
 use lib.Dec.{eqb, leb, ltb}
 use lib.ListN.{drop}
 use Rattle.rules.specs.Answers.{Answer, answer, refused, then}
-use Rattle.number.specs.Number.{Number, numberAt}
+use Rattle.number.specs.Number.{numberAt}
 use Rattle.grant.specs.Grant.{Grant, grantsOf}
 
 -- the days of a grant

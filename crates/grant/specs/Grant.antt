@@ -1,11 +1,11 @@
 -- Grants (document 01, "Grants and decisions"): a grant is feature, l, r, first day, last day; the grant list is grants until its bytes end.
 use Prim.Native.Nat.{ℕ, zero, suc}
-use mathlib.Core.Bool.{Bool, true, false, cond, not, _&&_, _||_}
+use mathlib.Core.Bool.{Bool, false, cond, not, _&&_, _||_}
 use mathlib.Core.List.{List, [], _∷_, _++_}
 use lib.Dec.{eqb, leb, ltb}
 use lib.ListN.{length}
 use Rattle.rules.specs.Answers.{Answer, answer, refused, then}
-use Rattle.number.specs.Number.{Number, numberAt, bytesOf}
+use Rattle.number.specs.Number.{numberAt, bytesOf}
 
 pub record Grant : Type 0 where
   pub feature : ℕ

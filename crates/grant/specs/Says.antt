@@ -1,5 +1,4 @@
 -- The number and the values of document 01 for each case of the answers.
-use Prim.Native.Nat.{ℕ}
 use Rattle.rules.specs.Answers.{Answer, answer, refused}
 use Rattle.rules.specs.Refusals.{refusalNumber}
 use Rattle.grant.specs.Grant.{GrantRead, grant}

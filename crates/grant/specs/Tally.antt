@@ -1,10 +1,9 @@
 -- What one pass over the grants keeps of them. `tally-dated` of proofs/Tallies.antt: in the end it says what `dated` does.
 use Prim.Native.Nat.{ℕ, min, max}
-use mathlib.Core.Bool.{Bool, true, false, cond}
+use mathlib.Core.Bool.{Bool, true, cond}
 use mathlib.Core.List.{List, [], _∷_}
 use lib.Dec.{eqb, ltb}
-use Rattle.rules.specs.Answers.{Answer, answer, then}
-use Rattle.grant.specs.Grant.{Grant, grantsFrom}
+use Rattle.grant.specs.Grant.{Grant}
 use Rattle.grant.specs.Decision.{Decision, onOpen, onUntil, ended, ahead, never, appliesTo}
 use Rattle.grant.specs.declared.Tally.{Tally}
 

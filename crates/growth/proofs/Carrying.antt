@@ -6,16 +6,13 @@ use native.Mathlib.Omega.{arith}
 use lib.ListN.{length, length-append}
 use borrow.Author.Tests.{le-leb, lt-leb}
 use Rattle.rules.specs.Answers.{Answer, answer, refused}
-use Rattle.rules.specs.Limits.{mostRows}
 use Rattle.rules.specs.Buffers.{after}
-use Rattle.rules.proofs.Buffers.{after-all}
-use Rattle.table.specs.Columns.{Row, Columns, counted, afterwards}
-use Rattle.rules.proofs.Buffers.{after-same, after-then}
+use Rattle.rules.proofs.Buffers.{after-all, after-same, after-then}
+use Rattle.table.specs.Columns.{Columns, counted, afterwards}
 use Rattle.refine.specs.Refine.{refined}
 use Rattle.growth.specs.Lines.{lineText}
 use Rattle.growth.specs.Growth.{Part, partAt, bytesIn, Growth, grown, headed, countAfter, partThen, requestThen, requestsFrom, lineRoom, tableRoom}
 use Rattle.growth.specs.Says.{Fitting, Carried}
-use Rattle.growth.specs.declared.Reached.{Reached}
 use Rattle.growth.proofs.Printing.{line-most}
 use Rattle.growth.proofs.Reading.{part-in, refined-within}
 
@@ -119,7 +116,7 @@ module _ {log : List ℕ} {from : ℕ} {c₀ : Columns} {text₀ : List ℕ} whe
         let r = g .room in
         let j = g .here in
         let s = length-append (g .done) line in
-        let few = count-within a (g .fitting .within) (λ x q. refined-within (g .fitting) (bytesIn log part) (sym ea ∙ q)) in
+        let few = count-within a (g .fitting .within) (λ x q. refined-within c count (bytesIn log part) (sym ea ∙ q)) in
         let step : requestsFrom (suc k) log at c count ≡ headed line (requestsFrom k log (part .end) d m) = rw (em, ed, ea) (goes-on log at c count k h e) in
         record {
           most = k;

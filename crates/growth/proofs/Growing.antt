@@ -1,17 +1,17 @@
 -- The whole of a log: the fresh pair, the requests and the table, in a buffer that has room for any log of its length.
 use mathlib.Core.Path.{_≡_, refl, ap, sym, _∙_}
 use mathlib.Core.List.{List, _++_}
-use Prim.Native.Nat.{ℕ, _+_, _*_, _-_, _<_, _≤_}
+use Prim.Native.Nat.{ℕ, _+_, _*_, _<_, _≤_}
 use native.Mathlib.Omega.{arith}
 use lib.ListN.{length, length-append}
 use borrow.Author.Tests.{le-leb, lt-leb}
 use Rattle.rules.specs.Answers.{Answer, answer, refused}
 use Rattle.rules.specs.Buffers.{after}
-use Rattle.rules.proofs.Answers.{same-answer, never-refused}
-use Rattle.table.specs.Columns.{Row, Columns, rows, put}
+use Rattle.rules.proofs.Answers.{same-answer, then-answer, then-refused}
+use Rattle.table.specs.Columns.{Columns, rows, put}
 use Rattle.table.proofs.Rows.{rows-length}
 use Rattle.rules.proofs.Buffers.{after-then}
-use Rattle.growth.specs.Lines.{lineText, rowsText, tableText}
+use Rattle.growth.specs.Lines.{lineText, tableText}
 use Rattle.growth.specs.Growth.{Begun, begun, begunAt, begunTable, Growth, grown, requestsFrom, listed, growthFrom, growth, growText, growColumns, growRoom, growAnswer, growBuffer, growTable, lineRoom, tableRoom}
 use Rattle.growth.specs.Says.{Fitting, Carried}
 use Rattle.growth.specs.declared.Reached.{Reached}
@@ -21,13 +21,8 @@ use Rattle.growth.proofs.Carrying.{Alike}
 
 -- ## What the fresh pair says
 
-pub begun-no : (b : Answer Begun) {n : ℕ} → begunAt b ≡ refused n → b ≡ refused n
-begun-no (answer d) e = never-refused (sym e)
-begun-no (refused m) {n} e = let f : m ≡ n = cc in ap refused f
-
-pub begun-yes : (b : Answer Begun) {n : ℕ} → begunAt b ≡ answer n → (d : Begun) × (b ≡ answer d) × (d .next ≡ n)
-begun-yes (answer d) e = (d, refl, same-answer e)
-begun-yes (refused m) e = never-refused e
+begun-yes : (b : Answer Begun) {n : ℕ} → begunAt b ≡ answer n → (d : Begun) × (b ≡ answer d) × (d .next ≡ n)
+begun-yes b e = let a = then-answer b _ e in (a .0, a .1, same-answer (a .2))
 
 -- the fresh table fits
 pub begun-fits : (c : Columns) (log : List ℕ) {d : Columns} {next : ℕ} → begunAt (begun c log) ≡ answer next → Alike c d → Fitting d 1
@@ -90,7 +85,7 @@ module _ (c : Columns) (log buffer : List ℕ) where
   pub grown-bad : {n count : ℕ} {text : List ℕ} {d : Columns} → lineRoom * length log + tableRoom ≤ length buffer → begunAt (begun c log) ≡ refused n
       → d ≡ begunTable (begun c log) c → count ≡ 0 + length (lineText (refused n)) → text ≡ after buffer 0 (lineText (refused n)) → Grows count text d
   grown-bad {n} h e t k w =
-      let b = begun-no (begun c log) e in
+      let b = then-refused (begun c log) _ e in
       let g = growth-bad c log b in
       let x : growText c log ≡ lineText (refused n) = ap (λ (y : Growth). y .text) g in
       grows h (omega (arith, ap length x)) (w ∙ ap (after buffer 0) (sym x))

@@ -1,19 +1,18 @@
 -- The lines: how long they are at most, and written one after another.
 use mathlib.Core.Path.{_≡_, refl, ap, sym, _∙_}
 use mathlib.Core.List.{List, [], _∷_, _++_, append-nil, append-assoc}
-use Prim.Native.Nat.{ℕ, suc, _+_, _*_, _<_, _≤_}
+use Prim.Native.Nat.{ℕ, _+_, _*_, _≤_}
 use native.Mathlib.Omega.{arith}
 use lib.ListN.{length, set, length-append}
 use Rattle.rules.specs.Answers.{Answer, answer, refused}
 use Rattle.rules.specs.Buffers.{after}
 use Rattle.rules.specs.Limits.{mostRows}
 use Rattle.rules.proofs.Answers.{same-answer, never-refused}
-use Rattle.rules.proofs.Buffers.{after-all}
+use Rattle.rules.proofs.Buffers.{after-all, after-same, after-then}
 use Rattle.text.specs.Decimal.{decimal}
 use Rattle.text.proofs.Laws.{decimal-count}
 use Rattle.table.specs.Columns.{Row, Columns, rowAt, rowsFrom, rows}
 use Rattle.table.proofs.Rows.{rows-more}
-use Rattle.rules.proofs.Buffers.{after-same, after-then}
 use Rattle.growth.specs.Lines.{fieldText, lineText, headingText, rowText, rowsText, tableText}
 use Rattle.growth.specs.Says.{Countable}
 

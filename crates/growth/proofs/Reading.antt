@@ -1,28 +1,25 @@
 -- What is read of a log: its fresh pair, and where each request stands.
 use mathlib.Core.Path.{_≡_, refl, ap, sym, _∙_}
-use mathlib.Core.Bool.{false, _||_}
-use mathlib.Core.List.{List, []}
+use mathlib.Core.Bool.{_||_}
+use mathlib.Core.List.{List}
 use Prim.Native.Nat.{ℕ, _+_, _-_, _<_, _≤_}
 use native.Mathlib.Omega.{arith}
 use lib.Dec.{eqb, ltb}
 use lib.ListN.{length}
 use borrow.Author.Tests.{ltb-false, lt-ltb, le-ltb}
-use Rattle.rules.specs.Answers.{Answer, answer, refused, then}
-use Rattle.rules.specs.Limits.{mostRows}
-use Rattle.rules.proofs.Answers.{same-answer, never-refused, peel}
-use Rattle.number.specs.Number.{Number, found, numberAt}
+use Rattle.rules.specs.Answers.{Answer, answer, refused}
+use Rattle.rules.proofs.Answers.{same-answer, peel, then-answer}
+use Rattle.number.specs.Number.{found, numberAt}
 use Rattle.number.proofs.Laws.{number-ends}
-use Rattle.request.specs.Request.{Request}
 use Rattle.request.specs.Reading.{requestOf}
 use Rattle.request.specs.Acceptance.{accepted}
-use Rattle.request.proofs.ReadLaws.{then-answer}
 use Rattle.request.proofs.Accepting.{request-accepted}
 use Rattle.table.specs.Columns.{Row, Columns, rows, put, counted}
 use Rattle.table.specs.Check.{lengthsBad, checked, soundRows}
 use Rattle.table.specs.Fresh.{freshRows}
 use Rattle.table.proofs.Lengths.{Lengths, lengths-good}
 use Rattle.table.proofs.Passing.{check-passed, rows-good}
-use Rattle.refine.specs.Refine.{groupsOf, refineRows, explodedRows, refined}
+use Rattle.refine.specs.Refine.{groupsOf, explodedRows, refined}
 use Rattle.refine.proofs.Refinement.{promises}
 use Rattle.growth.specs.Growth.{Part, partAt, Begun, begun, begunAt, begunTable}
 use Rattle.growth.specs.Says.{Countable, Fitting}
@@ -58,14 +55,6 @@ module _ (log : List ℕ) (at : ℕ) where
 
 -- ## What a request leads to
 
-pub counted-refused : (a : Answer (List Row)) {n : ℕ} → counted a ≡ refused n → a ≡ refused n
-counted-refused (answer t) e = never-refused (sym e)
-counted-refused (refused m) {n} e = let f : m ≡ n = cc in ap refused f
-
-pub counted-answer : (a : Answer (List Row)) {n : ℕ} → counted a ≡ answer n → (t : List Row) × (a ≡ answer t)
-counted-answer (answer t) e = (t, refl)
-counted-answer (refused m) e = never-refused e
-
 -- there is room for the rows of an accepted request
 pub refined-fits : (c : Columns) (count : ℕ) (bytes : List ℕ) {t : List Row} → refined c count bytes ≡ answer t → length t ≤ length (c .id)
 unfolding refined explodedRows
@@ -79,18 +68,16 @@ refined-fits c count bytes {t} e =
     let m = promises (length (c .id)) (a .0) bytes (b .0) s (b .1) (d .1 ∙ ap answer (sym q)) .refined-fits in
     omega (arith, ap length (same-answer (d .2)))
 
-module _ {c : Columns} {count : ℕ} (fitting : Fitting c count) (bytes : List ℕ) where
-  pub refined-countable : Countable (counted (refined c count bytes))
-  refined-countable = go (refined c count bytes) (λ t e. refined-fits c count bytes e)
-    where
-      go : (f : Answer (List Row)) → ((t : List Row) → f ≡ answer t → length t ≤ length (c .id)) → Countable (counted f)
-      go (answer t) h = omega (arith, h t refl, fitting .most)
-      go (refused n) h = tt
+-- and so for their count
+pub refined-within : (c : Columns) (count : ℕ) (bytes : List ℕ) {n : ℕ} → counted (refined c count bytes) ≡ answer n → n ≤ length (c .id)
+refined-within c count bytes e = let a = then-answer (refined c count bytes) _ e in omega (arith, refined-fits c count bytes (a .1), same-answer (a .2))
 
-  pub refined-within : {n : ℕ} → counted (refined c count bytes) ≡ answer n → n ≤ length (c .id)
-  refined-within e =
-      let a = counted-answer (refined c count bytes) e in
-      omega (arith, refined-fits c count bytes (a .1), same-answer (sym e ∙ ap counted (a .1)))
+pub refined-countable : {c : Columns} {count : ℕ} → Fitting c count → (bytes : List ℕ) → Countable (counted (refined c count bytes))
+refined-countable {c} {count} fitting bytes = go (refined c count bytes) (λ t e. refined-fits c count bytes e)
+  where
+    go : (f : Answer (List Row)) → ((t : List Row) → f ≡ answer t → length t ≤ length (c .id)) → Countable (counted f)
+    go (answer t) h = omega (arith, h t refl, fitting .most)
+    go (refused n) h = tt
 
 -- ## The fresh pair
 

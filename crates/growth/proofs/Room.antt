@@ -1,23 +1,24 @@
 -- `growRoom` is enough: the text of a log has at most 14 bytes for each byte of the log, and 16384 for the table.
-use mathlib.Core.Path.{_≡_, refl, ap, sym, _∙_}
+use mathlib.Core.Path.{_≡_, refl, ap, _∙_}
 use mathlib.Core.Bool.{Bool, true, false, cond}
-use mathlib.Core.List.{List, [], _++_, map}
+use mathlib.Core.List.{List, [], _++_}
 use Prim.Native.Nat.{ℕ, zero, suc, _+_, _*_, _-_, _<_, _≤_}
 use native.Mathlib.Omega.{arith}
 use lib.Dec.{leb}
-use lib.ListN.{length, length-append, length-drop, length-map}
+use lib.ListN.{length, length-append}
 use borrow.Author.Tests.{leb-true}
 use Rattle.rules.specs.Answers.{Answer, answer, refused}
 use Rattle.rules.specs.Limits.{mostRows}
 use Rattle.rules.proofs.Answers.{same-answer, never-refused}
 use Rattle.rules.proofs.Cases.{by-lt}
-use Rattle.table.specs.Columns.{Row, Columns, overlay, rows, put, counted, afterwards}
+use Rattle.table.specs.Columns.{Row, Columns, rows, put, counted, afterwards}
 use Rattle.table.proofs.Rows.{rows-length}
 use Rattle.refine.specs.Refine.{refined}
+use Rattle.refine.proofs.Held.{put-length}
 use Rattle.growth.specs.Lines.{lineText, tableText}
-use Rattle.growth.specs.Growth.{Part, partAt, bytesIn, Begun, begun, Growth, grown, headed, countAfter, requestsFrom, listed, growth, growText, growRoom, growAnswer, lineRoom, tableRoom}
+use Rattle.growth.specs.Growth.{Part, partAt, bytesIn, Begun, begun, Growth, grown, countAfter, requestsFrom, growText, growRoom, growAnswer, lineRoom, tableRoom}
 use Rattle.growth.proofs.Printing.{line-most, rows-most, table-count}
-use Rattle.growth.proofs.Reading.{part-in, counted-answer, refined-fits, begun-in}
+use Rattle.growth.proofs.Reading.{part-in, refined-fits, refined-within, begun-in}
 use Rattle.growth.proofs.Carrying.{stop, bad, goes-on, count-within}
 use Rattle.growth.proofs.Growing.{growth-bad, growth-good, listed-text}
 
@@ -25,13 +26,6 @@ use Rattle.growth.proofs.Growing.{growth-bad, growth-good, listed-text}
 record Sized (c : Columns) (count : ℕ) : Type 0 where
   most : length (c .id) ≤ mostRows
   within : count ≤ length (c .id)
-
-overlay-length : (new column : List ℕ) → length new ≤ length column → length (overlay new column) ≡ length column
-overlay-length new column h = simp (length-append, length-drop) (omega arith)
-
-put-length : (t : List Row) (c : Columns) → length t ≤ length (c .id) → length (put t c .id) ≡ length (c .id)
-unfolding put
-put-length t c h = overlay-length (map (λ w. w .id) t) (c .id) (simp length-map h)
 
 after-length : (f : Answer (List Row)) (c : Columns) → ((t : List Row) → f ≡ answer t → length t ≤ length (c .id)) → length (afterwards f c .id) ≡ length (c .id)
 after-length (answer t) c h = put-length t c (h t refl)
@@ -42,7 +36,7 @@ sized-after : (c : Columns) (count : ℕ) (bytes : List ℕ) → Sized c count
 sized-after c count bytes s =
     let f = refined c count bytes in
     let e = after-length f c (λ t e. refined-fits c count bytes e) in
-    let w = count-within (counted f) (s .within) (λ n e. let a = counted-answer f e in omega (arith, refined-fits c count bytes (a .1), same-answer (sym e ∙ ap counted (a .1)))) in
+    let w = count-within (counted f) (s .within) (λ n e. refined-within c count bytes e) in
     record { most = omega (arith, s .most); within = omega arith }
 
 -- few lines for so many bytes of the log, and a count that rows can have

@@ -1,12 +1,12 @@
 -- The work of `grow` (document 01): a log is id, quota, then requests, each after its byte length as a number.
 use Prim.Native.Nat.{ℕ, zero, suc, _+_, _*_, _-_}
-use mathlib.Core.Bool.{Bool, cond}
+use mathlib.Core.Bool.{cond}
 use mathlib.Core.List.{List, [], _++_}
 use lib.Dec.{leb, ltb}
 use lib.ListN.{length, take, drop}
 use Rattle.rules.specs.Answers.{Answer, answer, refused, then}
 use Rattle.rules.specs.Buffers.{after}
-use Rattle.number.specs.Number.{Number, numberAt}
+use Rattle.number.specs.Number.{numberAt}
 use Rattle.table.specs.Columns.{Row, Columns, rows, put, counted, afterwards}
 use Rattle.table.specs.Fresh.{freshRows}
 use Rattle.refine.specs.Refine.{refined}

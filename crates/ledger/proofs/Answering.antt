@@ -7,19 +7,19 @@ use native.Mathlib.Omega.{arith}
 use lib.Dec.{eqb}
 use borrow.Author.Tests.{ne-eqb, le-leb, lt-leb}
 use Rattle.rules.specs.Answers.{answer, refused}
+use Rattle.rules.proofs.Answers.{then-answer}
 use Rattle.rules.proofs.Cases.{by-eq}
 use Rattle.request.specs.Entries.{Entry, pick, oneAt, quotaAt, count, someEntry, Same}
 use Rattle.request.specs.Request.{Request, entries}
 use Rattle.request.specs.Reading.{requestOf}
 use Rattle.request.specs.Acceptance.{idTaken, accepted}
 use Rattle.request.proofs.Sums.{same-length}
-use Rattle.request.proofs.ReadLaws.{then-answer}
 use Rattle.request.proofs.Accepting.{request-accepted}
 use Rattle.table.specs.Columns.{Row}
-use Rattle.table.specs.Order.{rowOf, orderIn, subgroup}
+use Rattle.table.specs.Order.{rowOf, orderIn}
 use Rattle.refine.specs.Refine.{groupsOf}
-use Rattle.refine.specs.Theorems.{subgroupIn}
-use Rattle.refine.proofs.Lookup.{rowIn, l-row, r-row, id-row}
+use Rattle.refine.proofs.Lookup.{rowIn, id-row}
+use Rattle.refine.proofs.Refinement.{by-rows}
 use Rattle.ledger.specs.Ledger.{Ledger, acceptedBy, ledgerOrder}
 use Rattle.ledger.proofs.Agree.{Agree}
 
@@ -42,9 +42,6 @@ row-missing (w ∷ t) x h =
     ap (λ b. cond b (answer w) (rowOf t x)) (eqb-flip (w .id) x)
     ∙ (elim (eqb x (w .id)) as (λ b. pick b 1 0 + count x (groupsOf t) ≡ 0 → cond b (answer w) (rowOf t x) ≡ refused 20)
     [ true ↦ λ h. absurd (omega arith) | false ↦ λ h. row-missing t x (omega arith) ]) h
-
-by-rows : (t : List Row) (x y : ℕ) → subgroup (rowIn x t .l) (rowIn x t .r) (rowIn y t .l) (rowIn y t .r) ≡ subgroupIn t x y
-by-rows t x y = rw (l-row x t, r-row x t, l-row y t, r-row y t)
 
 module _ (t : List Row) (g : Ledger) (h : Agree t g) (a b : ℕ) where
   first-missing : count a (g .groups) ≡ 0 → orderIn t a b ≡ ledgerOrder g a b
@@ -72,8 +69,8 @@ module _ (t : List Row) (g : Ledger) (h : Agree t g) (a b : ℕ) where
         le-leb 1 (count b (g .groups)) l,
         id-row a t y,
         id-row b t z,
-        by-rows t a b,
-        by-rows t b a,
+        ← by-rows t a b,
+        ← by-rows t b a,
         h .ordered a b k l,
         h .ordered b a l k,
       )

@@ -1,14 +1,15 @@
 -- A decision by noted numbers and one by the ledger's order agree where the numbers compare as the order says.
-use mathlib.Core.Path.{_≡_, refl, ap, sym, _∙_}
-use mathlib.Core.Bool.{Bool, true, false, cond, not, _&&_, _||_}
+use mathlib.Core.Path.{_≡_, refl, ap, _∙_}
+use mathlib.Core.Bool.{Bool, false, _&&_}
 use mathlib.Core.List.{List, [], _∷_}
 use Prim.Native.Nat.{ℕ, _≤_}
 use native.Mathlib.Omega.{arith}
-use lib.Dec.{eqb, leb, ltb}
+use lib.Dec.{eqb, leb}
 use borrow.Author.Tests.{ne-eqb}
-use Rattle.rules.specs.Answers.{Answer, answer, refused, then}
+use Rattle.rules.specs.Answers.{answer}
+use Rattle.rules.proofs.Answers.{then-cond}
 use Rattle.grant.specs.Grant.{Grant, grant, grantBad, grantsBytes, someBad, checkedGrants}
-use Rattle.grant.specs.Decision.{Window, window, windows, appliesTo, Decision, dated, questionBad, decided}
+use Rattle.grant.specs.Decision.{window, windows, appliesTo, dated, questionBad, decided}
 use Rattle.grant.proofs.Stored.{Fits, AllFit, decided-back}
 use Rattle.ledger.specs.Ledger.{Ledger}
 use Rattle.ledger.specs.Decisions.{Held, days, heldBad, someHeldBad, appliesBy, ledgerDecided, Each}
@@ -64,10 +65,6 @@ module _ (order : ℕ → ℕ → Bool) (x l r : ℕ) where
   windows-alike feature (h ∷ hs) [] e = absurd e
   windows-alike feature (h ∷ hs) (g ∷ gs) e = rw (applies-alike (e .0) feature, days-alike (e .0), windows-alike feature hs gs (e .1))
 
-then-checked : {B : Type 0} (b : Bool) (gs : List Grant) (f : List Grant → Answer B) → then (cond b (refused 14) (answer gs)) f ≡ cond b (refused 14) (f gs)
-then-checked true gs f = refl
-then-checked false gs f = refl
-
 -- decide's whole answer is the ledger's
 pub decided-alike : (ledger : Ledger) (x l r : ℕ) → 1 ≤ l → 1 ≤ r → (hs : List Held) (gs : List Grant) → Each (Alike (ledger .order) x l r) hs gs → (feature day : ℕ)
     → decided feature l r day (grantsBytes gs) ≡ ledgerDecided ledger feature x day hs
@@ -77,7 +74,7 @@ decided-alike ledger x l r hl hr hs gs e feature day =
     ∙ rw (
       positive l hl,
       positive r hr,
-      then-checked (someBad gs) gs (λ (t : List Grant). answer (dated day (windows window (appliesTo feature l r) t))),
+      then-cond (someBad gs) 14 gs (λ (t : List Grant). answer (dated day (windows window (appliesTo feature l r) t))),
       bads-alike (ledger .order) x l r hs gs e,
       windows-alike (ledger .order) x l r feature hs gs e,
     )

@@ -3,7 +3,6 @@ pub mod Agree
 pub mod Orders
 pub mod Step
 pub mod Answering
-pub mod Held
 pub mod OneCall
 pub mod Starting
 mod Deciding

@@ -18,7 +18,8 @@ use Rattle.table.specs.Check.{countBad, checked}
 use Rattle.table.specs.Order as table
 use Rattle.table.proofs.Rows.{rows-length, rows-put}
 use Rattle.refine.specs.Refine.{groupsOf, lOf, rOf, refineRows, explodedRows, refined}
-use Rattle.refine.proofs.After.{length-rows}
+use Rattle.refine.proofs.Held.{put-length, put-lengths}
+use Rattle.refine.proofs.After.{groups-length}
 use Rattle.refine.proofs.Cutting.{Refining}
 use Rattle.refine.proofs.Refinement.{refining, promised}
 use Rattle.ledger.specs.Ledger.{Ledger, acceptedBy, explodedLedger, ledgerRefined, ledgerOrder}
@@ -26,7 +27,6 @@ use Rattle.ledger.specs.Calls.{Call, refine, order, refineSays, orderSay
 use Rattle.ledger.proofs.Agree.{Meets}
 use Rattle.ledger.proofs.Step.{agree-after, unmoved}
 use Rattle.ledger.proofs.Answering.{order-alike, accepted-alike, accepted-parts}
-use Rattle.ledger.proofs.Held.{put-length, put-lengths}
 
 module _ {s : Table} {g : Ledger} (m : Meets s g) where
   -- the check of the columns passes
@@ -72,7 +72,7 @@ module _ {s : Table} {g : Ledger} (m : Meets s g) where
         let h = refines-here e in
         let t = refineRows q (rowsIn s) in
         let fits = promised h .refined-fits in
-        let k = put-length t (s .columns) (m .lengths) fits in
+        let k = put-length t (s .columns) fits in
         record {
           lengths = put-lengths t (s .columns) (m .lengths) fits;
           room = k ∙ m .room;
@@ -87,7 +87,7 @@ module _ {s : Table} {g : Ledger} (m : Meets s g) (bytes : List ℕ) where
   unfolding engineReply ledgerReply ledgerRefined
   says-accepted {q} e =
       rw (refined-accepted m bytes e, e)
-      (ap (λ n. refineSays (answer n)) (sym (length-rows (refineRows q (rowsIn s))) ∙ same-length (groupsOf (refineRows q (rowsIn s))) (explodedLedger q g .groups) (agree-after g (m .agree) (refines-here m bytes e) .table)))
+      (ap (λ n. refineSays (answer n)) (sym (groups-length (refineRows q (rowsIn s))) ∙ same-length (groupsOf (refineRows q (rowsIn s))) (explodedLedger q g .groups) (agree-after g (m .agree) (refines-here m bytes e) .table)))
 
   says-refused : {n : ℕ} → acceptedBy g bytes ≡ refused n → engineReply s (refine bytes) ≡ ledgerReply g (refine bytes)
   unfolding engineReply ledgerReply ledgerRefined

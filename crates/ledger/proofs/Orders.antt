@@ -1,6 +1,6 @@
 -- The ledger's order after an accepted request, by cases: an entry, or another group of the old state.
 use mathlib.Core.Path.{_≡_, refl, _∙_}
-use mathlib.Core.Bool.{Bool, true, false, not, _&&_, _||_}
+use mathlib.Core.Bool.{Bool, true, false, not, _&&_, _||_, and-false, or-true, or-false}
 use mathlib.Core.Logic.{_≢_}
 use mathlib.Core.List.{_++_}
 use Prim.Native.Nat.{ℕ, zero, suc, _+_, _≤_, _<_}
@@ -12,50 +12,18 @@ use Rattle.request.specs.Forest.{Forest, none, tree, Direction, upright, invert
 use Rattle.request.specs.Request.{Request, entries}
 use Rattle.rules.proofs.Cases.{by-eq}
 use Rattle.request.proofs.Sums.{sum-append}
+use Rattle.request.proofs.Trees.{above-none, none-above}
 use Rattle.refine.specs.Theorems.{EntryIn}
 use Rattle.ledger.specs.Ledger.{Ledger, isOther, staysBelow, belowEntries, aboveEntries, itself, byTrees, orderAfter}
 
-pub and-false : (a : Bool) → (a && false) ≡ false
-and-false true = refl
-and-false false = refl
-
-or-true : (a : Bool) → (a || true) ≡ true
-or-true true = refl
-or-true false = refl
-
-or-false : (a : Bool) → (a || false) ≡ a
-or-false true = refl
-or-false false = refl
-
 -- an id that no entry has stands in no tree
-above-left : (t : Forest) (x y : ℕ) → count x (preL t) ≡ 0 → above t x y ≡ false
-above-left none x y h = refl
-above-left (tree i q c r) x y h =
-    (elim (eqb x i) as (λ b. pick b 1 0 + count x (preL c ++ preL r) ≡ 0 → ((b && (eqb y i || has y (preL c))) || (above c x y || above r x y)) ≡ false) [
-      | true ↦ λ h. absurd (omega arith)
-      | false ↦ λ h.
-          let s = sum-append (oneAt x) (preL c) (preL r) in
-          rw (above-left c x y (omega arith), above-left r x y (omega arith))
-    ]) h
-
-above-right : (t : Forest) (x y : ℕ) → count y (preL t) ≡ 0 → above t x y ≡ false
-above-right none x y h = refl
-above-right (tree i q c r) x y h =
-    (elim (eqb y i) as (λ b. pick b 1 0 + count y (preL c ++ preL r) ≡ 0 → ((eqb x i && (b || has y (preL c))) || (above c x y || above r x y)) ≡ false) [
-      | true ↦ λ h. absurd (omega arith)
-      | false ↦ λ h.
-          let s = sum-append (oneAt y) (preL c) (preL r) in
-          let k : count y (preL c) < 1 = omega arith in
-          rw (lt-leb 1 (count y (preL c)) k, above-right c x y (omega arith), above-right r x y (omega arith), and-false (eqb x i))
-    ]) h
-
 tree-left : (d : Direction) (t : Forest) (x y : ℕ) → count x (preL t) ≡ 0 → treeOrder d t x y ≡ false
-tree-left upright t x y h = above-left t x y h
-tree-left inverted t x y h = above-right t y x h
+tree-left upright t x y h = above-none t x y h
+tree-left inverted t x y h = none-above t y x h
 
 tree-right : (d : Direction) (t : Forest) (x y : ℕ) → count y (preL t) ≡ 0 → treeOrder d t x y ≡ false
-tree-right upright t x y h = above-right t x y h
-tree-right inverted t x y h = above-left t y x h
+tree-right upright t x y h = none-above t x y h
+tree-right inverted t x y h = above-none t y x h
 
 -- an entry in its tree
 in-either : (a b : Bool) (n m : ℕ) → (1 ≤ n → a ≡ true) → (1 ≤ m → b ≡ true) → 1 ≤ n + m → (a || b) ≡ true

@@ -1,6 +1,6 @@
 -- A fresh table and a fresh ledger agree.
 use mathlib.Core.Path.{_≡_, refl}
-use mathlib.Core.Bool.{Bool, true, false, _||_}
+use mathlib.Core.Bool.{Bool, true, false, _||_, and-false}
 use mathlib.Core.List.{[], _∷_}
 use Prim.Native.Nat.{ℕ, _+_, _-_, _≤_}
 use native.Mathlib.Omega.{arith}
@@ -9,10 +9,10 @@ use lib.ListN.{length}
 use borrow.Author.Tests.{le-ltb}
 use Rattle.rules.specs.Answers.{answer}
 use Rattle.rules.specs.Limits.{greatest}
-use Rattle.rules.proofs.Answers.{peel}
+use Rattle.rules.proofs.Answers.{peel, then-answer}
 use Rattle.rules.proofs.Bools.{or-none}
 use Rattle.request.specs.Entries.{pick}
-use Rattle.request.proofs.ReadLaws.{then-answer}
+use Rattle.request.proofs.Numbering.{pick-false}
 use Rattle.table.specs.Columns.{Row, Columns}
 use Rattle.table.specs.Check.{someRow, somePair, valueBad, lengthsBad, soundRows}
 use Rattle.table.specs.Fresh.{freshRows}
@@ -23,16 +23,11 @@ use Rattle.ledger.specs.Ledger.{freshLedger}
 use Rattle.ledger.specs.Calls.{engineStart}
 use Rattle.ledger.specs.Demand.{FreshAccepted}
 use Rattle.ledger.proofs.Agree.{Agree, Meets}
-use Rattle.ledger.proofs.Orders.{and-false}
-use Rattle.ledger.proofs.Held.{put-length, put-lengths}
+use Rattle.refine.proofs.Held.{put-length, put-lengths}
 
 one-group : (b : Bool) → 1 ≤ pick b 1 0 + 0 → b ≡ true
 one-group true h = refl
 one-group false h = absurd (omega arith)
-
-no-group : (b : Bool) → pick b 1 0 + 0 ≡ 0 → b ≡ false
-no-group true h = absurd (omega arith)
-no-group false h = refl
 
 module _ (c : Columns) (id quota : ℕ) where
   abbrev row : Row
@@ -67,8 +62,8 @@ module _ (c : Columns) (id quota : ℕ) where
     rights = λ f. refl;
     numbers = λ x k. rw (one-group (eqb x id) k) (refl, refl);
     ordered = λ x y j k. rw (one-group (eqb x id) j, one-group (eqb y id) k);
-    below-known = λ x y k. rw (no-group (eqb x id) k);
-    above-known = λ x y k. rw (no-group (eqb y id) k) (and-false (eqb x id));
+    below-known = λ x y k. rw (pick-false (eqb x id) (omega arith));
+    above-known = λ x y k. rw (pick-false (eqb y id) (omega arith)) (and-false (eqb x id));
   }
 
   fresh-rows : Good → freshRows c id quota ≡ answer (row ∷ [])
@@ -83,8 +78,8 @@ module _ (c : Columns) (id quota : ℕ) where
       rw (fresh-rows g)
       (record {
         lengths = put-lengths (row ∷ []) c (g .lengths) k;
-        room = put-length (row ∷ []) c (g .lengths) k;
+        room = put-length (row ∷ []) c k;
         some = omega arith;
-        most = omega (arith, put-length (row ∷ []) c (g .lengths) k);
+        most = omega (arith, put-length (row ∷ []) c k);
         agree = rw (rows-put (row ∷ []) c) (agree-fresh g (f .quota-32) (length (c .id)));
       })

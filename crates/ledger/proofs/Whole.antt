@@ -13,7 +13,7 @@ use Rattle.table.specs.Columns.{Columns}
 use Rattle.table.specs.Order.{subgroup}
 use Rattle.table.proofs.Rows.{rows-length}
 use Rattle.refine.specs.Refine.{groupsOf, lOf, rOf}
-use Rattle.refine.proofs.After.{length-rows}
+use Rattle.refine.proofs.After.{groups-length}
 use Rattle.refine.proofs.Lookup.{l-row, r-row}
 use Rattle.refine.proofs.Soundness.{sound-ids}
 use Rattle.grant.specs.Grant.{Grant}
@@ -118,7 +118,7 @@ module _ (c : Columns) (id quota : ℕ) (f : FreshAccepted c id quota) where
     answers = replies-alike (engineStart c id quota) (ledgerStart c id quota) (meets-fresh c id quota f) ks;
     groups = meets ks .agree .table;
     count = sym (rows-length (engine c id quota ks .columns) 0 (engine c id quota ks .count))
-        ∙ sym (length-rows (tableRows c id quota ks)) ∙ same-length (groupsOf (tableRows c id quota ks)) (ledger c id quota ks .groups) (meets ks .agree .table);
+        ∙ sym (groups-length (tableRows c id quota ks)) ∙ same-length (groupsOf (tableRows c id quota ks)) (ledger c id quota ks .groups) (meets ks .agree .table);
     numbers = λ x h. meets ks .agree .numbers x (leb-true 1 (count x (ledger c id quota ks .groups)) h);
     orders = orders-alike (meets ks);
     kept = λ x l r n. (last n .l-last, last n .r-last);

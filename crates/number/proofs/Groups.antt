@@ -6,8 +6,8 @@ use Prim.Native.Nat.{ℕ, zero, suc, _+_, _*_, _/_, _%_, _<_, _≤_}
 use native.Mathlib.Omega.{arith}
 use lib.ListN.{length, getD}
 use borrow.Author.Tests.{lt-ltb, le-ltb, le-leb, lt-leb, ne-eqb}
-use Rattle.rules.specs.Answers.{Answer, answer, refused}
-use Rattle.number.specs.Number.{Number, found, lastByte, above, followed, groupsAt, groupsOf}
+use Rattle.rules.specs.Answers.{refused}
+use Rattle.number.specs.Number.{found, lastByte, above, followed, groupsAt, groupsOf}
 
 module _ (bytes : List ℕ) (at : ℕ) where
   pub short : (k : ℕ) (only : Bool) → length bytes ≤ at → groupsAt k only bytes at ≡ refused 1

@@ -1,13 +1,13 @@
 -- The rows after a request: the row of each group, and their groups.
 use mathlib.Core.Path.{_≡_, refl, ap, ap₂, sym, _∙_}
 use mathlib.Core.Bool.{Bool, true, false, cond}
-use mathlib.Core.List.{List, [], _∷_, _++_, map}
+use mathlib.Core.List.{List, [], _∷_, _++_, map, map-append}
 use mathlib.Core.Logic.{_≢_, _⊎_, inl, inr}
 use Prim.Native.Nat.{ℕ, zero, suc, _+_, _-_, _≤_}
 use native.Mathlib.Omega.{arith}
 use native.Mathlib.Nat.{zero-add}
 use lib.Dec.{eqb}
-use lib.ListN.{length}
+use lib.ListN.{length, length-map}
 use borrow.Author.Tests.{eqb-true, ne-eqb}
 use Rattle.rules.proofs.Cases.{by-eq}
 use Rattle.request.specs.Entries.{Entry, entry, pick, oneAt, sum, count, quotaOf, Same, Distinct}
@@ -37,12 +37,11 @@ entry-groups f q l r [] = refl
 entry-groups f q l r (e ∷ s) = omega (arith, entry-groups f q l r s)
 
 groups-append : (f : Entry → ℕ) (s t : List Row) → sum f (groupsOf (s ++ t)) ≡ sum f (groupsOf s) + sum f (groupsOf t)
-groups-append f [] t = omega arith
-groups-append f (w ∷ s) t = omega (arith, groups-append f s t)
+groups-append f s t = ap (sum f) (map-append _ s t) ∙ sum-append f (groupsOf s) (groupsOf t)
 
-pub length-rows : (t : List Row) → length (groupsOf t) ≡ length t
-length-rows [] = refl
-length-rows (w ∷ t) = ap suc (length-rows t)
+-- as many groups as rows
+pub groups-length : (t : List Row) → length (groupsOf t) ≡ length t
+groups-length t = length-map t _
 
 module _ (q : Request) where
   abbrev u : ℕ
@@ -125,8 +124,8 @@ module _ {q : Request} {t : List Row} (h : Refines q t) where
     length-sum (groupsOf (refineRows q t)),
     length-sum (groupsOf t),
     length-sum (entries q),
-    length-rows t,
-    length-rows (refineRows q t),
+    groups-length t,
+    groups-length (refineRows q t),
   )
 
   pub count-other : (x : ℕ) → x ≢ q .exploded → count x (groupsOf (refineRows q t)) ≡ count x (groupsOf t) + count x (entries q)

@@ -2,9 +2,9 @@
 use mathlib.Core.Path.{_≡_, ap, sym, _∙_}
 use mathlib.Core.List.{List}
 use mathlib.Core.Logic.{_≢_, _⊎_, inl, inr}
-use Prim.Native.Nat.{ℕ, _+_, _-_, _≤_}
+use Prim.Native.Nat.{ℕ, _+_, _≤_}
 use native.Mathlib.Omega.{arith}
-use Rattle.request.specs.Entries.{Entry, entry, oneAt, quotaAt, quota, total, count, quotaOf, before, Same}
+use Rattle.request.specs.Entries.{Entry, oneAt, quotaAt, quota, total, count, quotaOf, before, Same}
 use Rattle.request.specs.Request.{Request, entries, leftOf, rightOf}
 use Rattle.request.proofs.Sums.{Clear, before-within, positive-quota, apart}
 use Rattle.request.proofs.Trees.{same-left, same-right}

@@ -1,17 +1,19 @@
 -- The entries of a forest that stands in the work columns, each with a value of its own.
 use mathlib.Core.Path.{_≡_, refl, ap, ap₂, sym, _∙_}
-use mathlib.Core.List.{List, [], _∷_, _++_, map}
-use Prim.Native.Nat.{ℕ, zero, suc, _+_, _≤_, _<_}
+use mathlib.Core.Bool.{Bool}
+use mathlib.Core.List.{List, [], _∷_, _++_, map, map-append}
+use Prim.Native.Nat.{ℕ, zero, suc, _+_}
 use native.Mathlib.Omega.{arith}
 use native.Mathlib.Numerals.{add-one}
 use lib.ListN.{length, getD}
 use lib.Seq.{getD-append-seam, append-snoc}
-use Rattle.request.specs.Entries.{Entry, entry, sum, noQuota, pick, Positive}
+use Rattle.request.specs.Entries.{Entry, entry, noQuota, pick, Positive}
 use Rattle.request.specs.Forest.{Forest, none, tree, preL}
 use Rattle.request.specs.Numbering.{size}
+use Rattle.request.specs.Request.{Request, entries}
 use Rattle.request.proofs.Sums.{sum-append}
 use Rattle.request.proofs.Numbering.{size-length}
-use Rattle.refine.specs.Work.{Work, Stored, listed}
+use Rattle.refine.specs.Work.{Work, Stored, Told, listed}
 use borrow.Author.Tests.{ne-eqb}
 
 -- the values stand in a list from an index on
@@ -40,11 +42,7 @@ listed-append ids values at (suc m) n =
     let f : suc at + m ≡ at + suc m = omega arith in
     rw (e, ← f) (ap (λ t. entry (getD ids at 0) (getD values at 0) ∷ t) (listed-append ids values (suc at) m n))
 
-map-append : {A B : Type 0} (f : A → B) (s t : List A) → map f (s ++ t) ≡ map f s ++ map f t
-map-append f [] t = refl
-map-append f (x ∷ s) t = ap (λ l. f x ∷ l) (map-append f s t)
-
-pub stored-listed : (w : Work) (values : List ℕ) (f : Entry → ℕ) (at : ℕ) (t : Forest) → Stored w at t → Values values at (map f (preL t))
+stored-listed : (w : Work) (values : List ℕ) (f : Entry → ℕ) (at : ℕ) (t : Forest) → Stored w at t → Values values at (map f (preL t))
     → listed (w .ids) values at (size t) ≡ map (λ e. entry (e .id) (f e)) (preL t)
 stored-listed w values f at none s v = refl
 stored-listed w values f at (tree i q c r) s v =
@@ -83,6 +81,20 @@ quotas-stand w at t s = stored-values (λ w. w .quotas) (λ e. e .quota) w (λ a
 
 pub ids-stand : (w : Work) (at : ℕ) (t : Forest) → Stored w at t → Values (w .ids) at (map (λ e. e .id) (preL t))
 ids-stand w at t s = stored-values (λ w. w .ids) (λ e. e .id) w (λ at i q c r s. s .0 .id-is) at t s
+
+-- the entries of a request in the work columns, each with a value that stands in a column
+pub told-listed : {w : Work} {u m s : ℕ} {up : Bool} {a : Request} → Told w u up m s a → (values : List ℕ) (f : Entry → ℕ) → Values values 0 (map f (entries a))
+    → listed (w .ids) values 0 m ≡ map (λ e. entry (e .id) (f e)) (entries a)
+told-listed {w} {a = a} told values f v = ap (listed (w .ids) values 0) (told .entries-are) ∙ stored-listed w values f 0 (a .trees) (told .stored) v
+
+-- entries with their own quotas
+pub map-self : (s : List Entry) → map (λ e. entry (e .id) (e .quota)) s ≡ s
+map-self [] = refl
+map-self (e ∷ s) = ap (λ t. e ∷ t) (map-self s)
+
+-- and with their quotas
+pub entries-listed : {w : Work} {u m s : ℕ} {up : Bool} {a : Request} → Told w u up m s a → listed (w .ids) (w .quotas) 0 m ≡ entries a
+entries-listed {w} {a = a} told = told-listed told (w .quotas) (λ e. e .quota) (quotas-stand w 0 (a .trees) (told .stored)) ∙ map-self (entries a)
 
 -- every quota that stands there is at least 1
 pub stored-positive : (w : Work) (at : ℕ) (t : Forest) → Stored w at t → Positive (preL t)

@@ -1,31 +1,30 @@
 -- The refusals 20 to 24 of a request in the work columns, from what the code finds.
-use mathlib.Core.Path.{_≡_, refl, ap, ap₂, sym, _∙_}
-use mathlib.Core.Bool.{Bool, true, false, not, cond, _&&_, _||_}
-use mathlib.Core.List.{List, [], _∷_, map}
+use mathlib.Core.Path.{_≡_, refl, ap, sym, _∙_}
+use mathlib.Core.Bool.{Bool, true, false, not, _&&_, _||_}
+use mathlib.Core.List.{List, _∷_}
 use Prim.Native.Nat.{ℕ, zero, suc, _+_, _-_, _≤_, _<_}
 use native.Mathlib.Omega.{arith}
 use lib.Dec.{eqb, leb}
 use lib.ListN.{length, getD}
-use borrow.Author.Tests.{eq-eqb, ne-eqb, le-leb, lt-leb, lt-ltb, le-ltb}
+use borrow.Author.Tests.{eq-eqb, ne-eqb, le-leb, lt-ltb, le-ltb}
 use Rattle.rules.specs.Answers.{Answer, answer, refused}
-use Rattle.request.specs.Entries.{Entry, entry, pick, count, has, quotaOf, total, someEntry}
-use Rattle.request.specs.Numbering.{size, whole}
+use Rattle.request.specs.Entries.{entry, count, has, quotaOf, total, someEntry}
 use Rattle.request.specs.Request.{Request, entries}
 use Rattle.request.specs.Acceptance.{accepted}
 use Rattle.request.proofs.Numbering.{size-length, whole-total}
-use Rattle.table.specs.Columns.{Row, Columns, columns, rowAt, rowsFrom, rows, counted, afterwards}
+use Rattle.table.specs.Columns.{Row, Columns, rowsFrom, rows, counted, afterwards}
 use Rattle.table.specs.Check.{checked}
 use Rattle.table.proofs.Rows.{rows-length}
-use Rattle.table.proofs.Passing.{Passed, check-passed}
+use Rattle.table.proofs.Passing.{check-passed}
 use Rattle.refine.specs.Refine.{groupsOf, refineRows, explodedRows}
 use Rattle.refine.specs.Placing.{PlaceIn}
 use Rattle.refine.specs.Work.{Work, Told, listed}
 use Rattle.request.proofs.Accepting.{request-accepted}
-use Rattle.refine.proofs.After.{length-after}
+use Rattle.refine.proofs.After.{groups-length, length-after}
 use Rattle.refine.proofs.Lookup.{ids-distinct}
-use Rattle.refine.proofs.Entering.{stored-listed, quotas-stand}
+use Rattle.refine.proofs.Entering.{entries-listed}
 use Rattle.refine.proofs.PlacingLaws.{listed-step, listed-all, listed-end, count-here, count-past}
-use Rattle.refine.proofs.Written.{quota-at, map-self, groups-length}
+use Rattle.refine.proofs.Written.{quota-at}
 
 -- the groups of the table are the entries of its columns
 groups-from : (c : Columns) (i n : ℕ) → groupsOf (rowsFrom c i n) ≡ listed (c .id) (c .q) i n
@@ -59,12 +58,6 @@ pub refuses : (c : Columns) (found : Answer (List Row)) (k : ℕ) → found ≡ 
 refuses c found k e = (rw e, rw e)
 
 module _ (c : Columns) (n u own : ℕ) (a : Request) (w : Work) (up : Bool) (m s : ℕ) (told : Told w u up m s a) (good : checked c n ≡ answer (rows c n)) (p : PlaceIn (c .id) n u own) where
-  entries-listed : listed (w .ids) (w .quotas) 0 m ≡ entries a
-  entries-listed =
-      ap (listed (w .ids) (w .quotas) 0) (told .entries-are)
-      ∙ stored-listed w (w .quotas) (λ e. e .quota) 0 (a .trees) (told .stored) (quotas-stand w 0 (a .trees) (told .stored))
-      ∙ map-self (entries a)
-
   -- 20
   pub unknown : (room : ℕ) → own ≡ n → explodedRows room (rows c n) a ≡ refused 20
   unfolding explodedRows accepted
@@ -80,7 +73,7 @@ module _ (c : Columns) (n u own : ℕ) (a : Request) (w : Work) (up : Bool) (m s
 
   module _ (room : ℕ) (h : own < n) {k : ℕ} (times : k ≡ count u (listed (w .ids) (w .quotas) 0 m)) where
     entry-times : count (a .exploded) (entries a) ≡ k
-    entry-times = ap (λ x. count x (entries a)) (sym (told .exploded-is)) ∙ sym (times ∙ ap (count u) entries-listed)
+    entry-times = ap (λ x. count x (entries a)) (sym (told .exploded-is)) ∙ sym (times ∙ ap (count u) (entries-listed told))
 
     -- 21
     pub not-one : (k ≡ 1 → ⊥) → explodedRows room (rows c n) a ≡ refused 21
@@ -90,7 +83,7 @@ module _ (c : Columns) (n u own : ℕ) (a : Request) (w : Work) (up : Bool) (m s
     module _ (one : k ≡ 1) {t : Bool}
         (clash : t ≡ someEntry (λ e. not (eqb (e .id) u) && (has (e .id) (listed (c .id) (c .q) 0 n) || leb 2 (count (e .id) (listed (w .ids) (w .quotas) 0 m)))) (listed (w .ids) (w .quotas) 0 m)) where
       taken-is : someEntry (λ e. not (eqb (e .id) (a .exploded)) && (has (e .id) (groupsOf (rows c n)) || leb 2 (count (e .id) (entries a)))) (entries a) ≡ t
-      taken-is = rw (← (told .exploded-is), groups-from c 0 n, ← entries-listed) (sym clash)
+      taken-is = rw (← (told .exploded-is), groups-from c 0 n, ← (entries-listed told)) (sym clash)
 
       -- 22
       pub id-taken : t ≡ true → explodedRows room (rows c n) a ≡ refused 22

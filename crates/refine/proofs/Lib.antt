@@ -1,3 +1,4 @@
+pub mod Held
 pub mod Lookup
 pub mod Without
 pub mod Soundness

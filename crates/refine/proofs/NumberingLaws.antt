@@ -2,20 +2,20 @@
 use mathlib.Core.Path.{_≡_, refl, ap, ap₂, sym, _∙_}
 use mathlib.Core.Bool.{Bool, true, false}
 use mathlib.Core.List.{List, [], _∷_, _++_, append-assoc, append-nil}
-use Prim.Native.Nat.{ℕ, zero, suc, _+_, _-_, _≤_, _<_}
+use Prim.Native.Nat.{ℕ, suc, _+_, _-_, _≤_, _<_}
 use native.Mathlib.Omega.{arith}
 use native.Mathlib.Numerals.{add-one}
 use lib.ListN.{length, getD, take, drop, set, length-set, length-drop, length-append}
-use lib.Seq.{take-all, take-suc-set, take-append-seam, take-append-add, take-append-le, length-take-le, append-snoc}
+use lib.Seq.{take-all, take-suc-set, take-append-seam, take-append-add, length-take-le, append-snoc}
 use Rattle.boxes.specs.Boxes.{boxOf, nextChild}
 use Rattle.boxes.specs.declared.Box.{Box}
 use Rattle.boxes.specs.declared.Cut.{Cut}
 use Rattle.boxes.specs.declared.Cut.the-variants.{Parts, None}
 use Rattle.boxes.proofs.Ranges.{parts}
-use Rattle.request.specs.Forest.{Forest, none, tree, upright, inverted}
+use Rattle.request.specs.Forest.{Forest, none, tree}
 use Rattle.request.specs.Numbering.{whole, size, lefts, rights, upL, upR, downL, downR}
 use Rattle.refine.specs.Corners.{cornerOf, innerOf}
-use Rattle.refine.specs.Work.{Work, EntryIn, Stored, Boxed, directionBy}
+use Rattle.refine.specs.Work.{Work, Stored, Boxed, directionBy}
 
 -- the box of the first tree, of the subtree quota s, in a box of the quota b
 abbrev pub childOf : ℕ → ℕ → ℕ → ℕ → Box

@@ -1,20 +1,19 @@
 -- The columns that the code writes hold the rows of the definition.
 use mathlib.Core.Path.{_≡_, refl, ap, ap₂, sym, _∙_}
-use mathlib.Core.Bool.{Bool, true, false, cond, true≢false}
-use mathlib.Core.List.{List, [], _∷_, _++_, map, append-assoc}
-use Prim.Native.Nat.{ℕ, zero, suc, _+_, _-_, _≤_, _<_}
+use mathlib.Core.Bool.{true, false, cond, true≢false}
+use mathlib.Core.List.{List, [], _∷_, _++_, map, map-append, map-map}
+use Prim.Native.Nat.{ℕ, zero, suc, _+_, _≤_, _<_}
 use native.Mathlib.Omega.{arith}
-use native.Mathlib.Numerals.{add-one}
 use lib.Dec.{eqb}
 use lib.ListN.{length, getD, set, take, drop, length-set, length-append, length-map}
 use lib.Seq.{sets, sets-eq, set-comm, drop-cons, drop-set-lt, getD-set-same, getD-set-other, length-take-le}
-use borrow.Author.Tests.{eq-eqb, ne-eqb, eqb-true, eqb-false}
+use borrow.Author.Tests.{eq-eqb, ne-eqb}
 use Rattle.rules.proofs.Cases.{by-lt, by-eq}
 use Rattle.request.specs.Entries.{Entry, entry, pick, count, quotaOf}
 use Rattle.request.specs.Request.{Request, entries}
+use Rattle.request.proofs.Sums.{quota-none}
 use Rattle.table.specs.Columns.{Row, Columns, rowAt, rowsFrom, rows, overlay}
-use Rattle.table.specs.Check.{someRow, somePair, sameId}
-use Rattle.table.proofs.Rows.{rows-length}
+use Rattle.table.specs.Check.{somePair, sameId}
 use Rattle.table.proofs.Tests.{some-found, pair-found}
 use Rattle.refine.specs.Refine.{without, rowFor, keptRows, newRows, refineRows, lOf, rOf}
 use Rattle.refine.specs.Placing.{placed}
@@ -33,12 +32,6 @@ without-none u [] h = refl
 without-none u (e ∷ s) h =
     (elim (eqb u (e .id)) as (λ b. pick b 1 0 + count u s ≡ 0 → cond b (without u s) (e ∷ without u s) ≡ e ∷ s)
     [ true ↦ λ h. let z : ⊥ = omega arith in absurd z | false ↦ λ h. ap (λ t. e ∷ t) (without-none u s (omega arith)) ]) h
-
-quota-none : (u : ℕ) (s : List Entry) → count u s ≡ 0 → quotaOf u s ≡ 0
-quota-none u [] h = refl
-quota-none u (e ∷ s) h =
-    (elim (eqb u (e .id)) as (λ b. pick b 1 0 + count u s ≡ 0 → pick b (e .quota) 0 + quotaOf u s ≡ 0)
-    [ true ↦ λ h. let z : ⊥ = omega arith in absurd z | false ↦ λ h. omega (arith, quota-none u s (omega arith)) ]) h
 
 pub placed-one : (u own next : ℕ) (s : List Entry) (column : List ℕ) → own < next → count u s ≡ 1
     → placed u own next s column ≡ sets (set column own (quotaOf u s)) next (map (λ e. e .quota) (without u s))
@@ -86,7 +79,8 @@ map-without f u (e ∷ s) =
     ≡ map f (cond b (without u s) (e ∷ without u s)))
     [ true ↦ map-without f u s | false ↦ ap (λ t. f e ∷ t) (map-without f u s) ]
 
-count-map : (f : Entry → ℕ) (u : ℕ) (s : List Entry) → count u (map (λ e. entry (e .id) (f e)) s) ≡ count u s
+-- new values leave each id as often as it was
+pub count-map : (f : Entry → ℕ) (u : ℕ) (s : List Entry) → count u (map (λ e. entry (e .id) (f e)) s) ≡ count u s
 count-map f u [] = refl
 count-map f u (e ∷ s) = ap (λ n. pick (eqb u (e .id)) 1 0 + n) (count-map f u s)
 
@@ -95,14 +89,6 @@ without-length u [] h = let z : ⊥ = omega arith in absurd z
 without-length u (e ∷ s) h =
     (elim (eqb u (e .id)) as (λ b. pick b 1 0 + count u s ≡ 1 → length (cond b (without u s) (e ∷ without u s)) + 1 ≡ suc (length s))
     [ true ↦ λ h. rw (without-none u s (omega arith)) (omega arith) | false ↦ λ h. omega (arith, without-length u s (omega arith)) ]) h
-
-map-append : {A B : Type 0} (f : A → B) (s t : List A) → map f (s ++ t) ≡ map f s ++ map f t
-map-append f [] t = refl
-map-append f (x ∷ s) t = ap (λ l. f x ∷ l) (map-append f s t)
-
-map-map : {A B C : Type 0} (g : B → C) (f : A → B) (s : List A) → map g (map f s) ≡ map (λ x. g (f x)) s
-map-map g f [] = refl
-map-map g f (x ∷ s) = ap (λ l. g (f x) ∷ l) (map-map g f s)
 
 map-same : {A B : Type 0} (f g : A → B) (s : List A) → ((x : A) → f x ≡ g x) → map f s ≡ map g s
 map-same f g [] h = refl

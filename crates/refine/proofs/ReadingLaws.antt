@@ -1,21 +1,23 @@
 -- Laws of reading, in the code's terms: a number that may not be 0, an entry, the trees from a position on, and a request.
 use mathlib.Core.Path.{_≡_, refl, ap, sym, _∙_, subst}
-use mathlib.Core.Bool.{Bool, true, false, cond}
+use mathlib.Core.Bool.{Bool}
 use mathlib.Core.List.{List}
 use Prim.Native.Nat.{ℕ, zero, suc, _+_, _-_, _*_, _≤_, _<_}
 use native.Mathlib.Omega.{arith}
 use native.Mathlib.Numerals.{sub-one}
-use lib.Dec.{eqb, ltb}
+use lib.Dec.{eqb}
 use lib.ListN.{length, getD, set, length-set}
 use lib.Seq.{getD-set-same, getD-set-other}
-use borrow.Author.Tests.{lt-ltb, le-ltb, eq-eqb, ne-eqb, ltb-true, eqb-false}
+use borrow.Author.Tests.{lt-ltb, le-ltb, eq-eqb, ne-eqb}
 use Rattle.rules.specs.Answers.{Answer, answer, refused, then}
-use Rattle.rules.proofs.Answers.{same-answer, never-refused, peel}
-use Rattle.number.specs.Number.{Number, found, numberAt}
+use Rattle.rules.proofs.Answers.{same-answer, never-refused, then-refused}
+use Rattle.number.specs.Number.{found, numberAt}
 use Rattle.request.specs.Forest.{Forest, none, tree, Direction, upright, inverted}
 use Rattle.request.specs.Numbering.{whole, size}
 use Rattle.request.specs.Request.{Request}
 use Rattle.request.specs.Reading.{positiveAt, entryAt, EntryRead, TreesRead, treesBy, treesAt, directionOf, requestOf}
+use Rattle.request.proofs.ReadLaws.{positive-some, entry-some, read-trees}
+use Rattle.request.proofs.Numbering.{size-length}
 use Rattle.refine.specs.Work.{Work, work, EntryIn, Stored, Roomy, SameBelow, Reached, reached, Walked, directionBy, isUpright, Summary, summary, HeardIn}
 
 -- ## A number that may not be 0
@@ -32,19 +34,6 @@ module _ (bytes : List ℕ) (at : ℕ) where
   pub positive-found : {value next : ℕ} → found value next ≡ numberAt bytes at → (value ≡ 0 → ⊥) → found value next ≡ positiveAt bytes at
   unfolding positiveAt
   positive-found {value} h z = rw (sym h, ne-eqb value 0 z)
-
-  -- what is read so is not 0
-  positive-some : (a : Answer Number) {n : Number} → then a (λ n. cond (eqb (n .value) 0) (refused 4) (answer n)) ≡ answer n → 1 ≤ n .value
-  positive-some (answer m) {n} e =
-      let p = peel (eqb (m .value) 0) 4 (answer m) e in
-      let z : m .value ≡ 0 → ⊥ = eqb-false (m .value) 0 (p .0) in
-      let s : m .value ≡ n .value = ap (λ (x : Number). x .value) (same-answer (p .1)) in
-      omega arith
-  positive-some (refused k) e = never-refused e
-
-  pub positive : {n : Number} → positiveAt bytes at ≡ answer n → 1 ≤ n .value
-  unfolding positiveAt
-  positive e = positive-some (numberAt bytes at) e
 
 -- ## An entry
 
@@ -67,32 +56,6 @@ module _ (bytes : List ℕ) (at : ℕ) where
       → answer (record { id = id; quota = quota; children = children; next = next }) ≡ entryAt bytes at
   unfolding entryAt
   entry-found h i j = rw (sym h, sym i, sym j)
-
--- what follows an entry's id, and its quota
-entry-some-3 : (id quota : Number) → 1 ≤ id .value → 1 ≤ quota .value → (a : Answer Number) {e : EntryRead}
-    → then a (λ children. answer (record { id = id .value; quota = quota .value; children = children .value; next = children .next })) ≡ answer e
-    → (1 ≤ e .id) × (1 ≤ e .quota)
-entry-some-3 id quota i q (refused k) e = never-refused e
-entry-some-3 id quota i q (answer children) e = subst (λ (e : EntryRead). (1 ≤ e .id) × (1 ≤ e .quota)) (same-answer e) (i, q)
-
-entry-some-2 : (bytes : List ℕ) (id : Number) → 1 ≤ id .value → (a : Answer Number) → ((n : Number) → a ≡ answer n → 1 ≤ n .value) → {e : EntryRead}
-    → then a (λ quota. then (numberAt bytes (quota .next)) λ children.
-    answer (record { id = id .value; quota = quota .value; children = children .value; next = children .next })) ≡ answer e
-    → (1 ≤ e .id) × (1 ≤ e .quota)
-entry-some-2 bytes id i (refused k) h e = never-refused e
-entry-some-2 bytes id i (answer quota) h e = entry-some-3 id quota i (h _ refl) (numberAt bytes (quota .next)) e
-
--- both numbers of an entry are at least 1
-entry-some : (bytes : List ℕ) (a : Answer Number) → ((n : Number) → a ≡ answer n → 1 ≤ n .value) → {e : EntryRead}
-    → then a (λ id. then (positiveAt bytes (id .next)) λ quota. then (numberAt bytes (quota .next)) λ children.
-    answer (record { id = id .value; quota = quota .value; children = children .value; next = children .next })) ≡ answer e
-    → (1 ≤ e .id) × (1 ≤ e .quota)
-entry-some bytes (refused k) h e = never-refused e
-entry-some bytes (answer a) h e = entry-some-2 bytes a (h _ refl) (positiveAt bytes (a .next)) (λ n g. positive bytes (a .next) g) e
-
-pub entry-positive : (bytes : List ℕ) (at : ℕ) {e : EntryRead} → entryAt bytes at ≡ answer e → (1 ≤ e .id) × (1 ≤ e .quota)
-unfolding entryAt
-entry-positive bytes at e = entry-some bytes (positiveAt bytes at) (λ n g. positive bytes at g) e
 
 -- ## The trees from a position on
 
@@ -142,53 +105,10 @@ module _ (bytes : List ℕ) where
       let g : treesAt room (e .children) bytes (e .next) (used + 1) ≡ answer c = rw (sub-one (suc room)) at b in
       rw (lt-ltb used 256 l, f, g, sub-one (suc n))
 
--- ## How many entries were read
-
 -- the trees that were read count on from `used`, up to the most entries
-abbrev Counted : ℕ → Answer TreesRead → Type 0
-Counted used (answer t) = (t .used ≡ used + size (t .trees)) × (used ≤ 256 → t .used ≤ 256)
-Counted used (refused n) = Unit {0}
-
-cond-counted : (used : ℕ) (b : Bool) (x y : Answer TreesRead) → (b ≡ true → Counted used x) → (b ≡ false → Counted used y) → Counted used (cond b x y)
-cond-counted used true x y h k = h refl
-cond-counted used false x y h k = k refl
-
-then-counted : {A : Type 0} (used : ℕ) (a : Answer A) (f : A → Answer TreesRead) → ((x : A) → a ≡ answer x → Counted used (f x)) → Counted used (then a f)
-then-counted used (answer x) f h = h x refl
-then-counted used (refused n) f h = tt
-
--- an entry, the trees below it and those to its right
-right-counted : (used id quota : ℕ) (c : TreesRead) → used < 256 → Counted (used + 1) (answer c) → (a : Answer TreesRead) → Counted (c .used) a
-    → Counted used (then a λ r. answer (record { trees = tree id quota (c .trees) (r .trees); next = r .next; used = r .used }))
-right-counted used id quota c l h (refused n) k = tt
-right-counted used id quota c l h (answer r) k = (omega arith, λ m. k .1 (h .1 (omega arith)))
-
-next-counted : (used id quota : ℕ) → used < 256 → (a : Answer TreesRead) → Counted (used + 1) a → (f : TreesRead → Answer TreesRead)
-    → ((c : TreesRead) → Counted (c .used) (f c))
-    → Counted used (then a λ c. then (f c) λ r. answer (record { trees = tree id quota (c .trees) (r .trees); next = r .next; used = r .used }))
-next-counted used id quota l (refused n) h f k = tt
-next-counted used id quota l (answer c) h f k = right-counted used id quota c l h (f c) (k c)
-
-by-counted : (below : ℕ → ℕ → ℕ → Answer TreesRead) → ((m p k : ℕ) → Counted k (below m p k)) → (deep : Bool) (n : ℕ) (bytes : List ℕ) (at used : ℕ)
-    → Counted used (treesBy below deep n bytes at used)
-unfolding treesBy
-by-counted below h deep zero bytes at used = (omega arith, λ l. l)
-by-counted below h deep (suc n) bytes at used =
-    cond-counted used (ltb used 256) _ _
-    (λ t. let l = ltb-true used 256 t in
-    cond-counted used deep _ _ (λ _. tt) (λ _. then-counted used (entryAt bytes at) _ (λ e _.
-    next-counted used (e .id) (e .quota) l (below (e .children) (e .next) (used + 1)) (h (e .children) (e .next) (used + 1))
-    (λ c. treesBy below deep n bytes (c .next) (c .used)) (λ c. by-counted below h deep n bytes (c .next) (c .used)))))
-    (λ _. tt)
-
-trees-counted : (room n : ℕ) (bytes : List ℕ) (at used : ℕ) → Counted used (treesAt room n bytes at used)
-unfolding treesAt
-trees-counted zero n bytes at used = by-counted (λ m p k. refused 5) (λ m p k. tt) true n bytes at used
-trees-counted (suc room) n bytes at used = by-counted (λ m p k. treesAt room m bytes p k) (λ m p k. trees-counted room m bytes p k) false n bytes at used
-
-pub used-size : (room n : ℕ) (bytes : List ℕ) (at used : ℕ) {t : TreesRead} → treesAt room n bytes at used ≡ answer t
+used-size : (room n : ℕ) (bytes : List ℕ) (at used : ℕ) {t : TreesRead} → treesAt room n bytes at used ≡ answer t
     → (t .used ≡ used + size (t .trees)) × (used ≤ 256 → t .used ≤ 256)
-used-size room n bytes at used e = subst (λ (a : Answer TreesRead). Counted used a) e (trees-counted room n bytes at used)
+used-size room n bytes at used {t} e = let r = read-trees room n bytes at used e in (omega (arith, r .counted, size-length (t .trees)), r .most)
 
 -- ## Trees to the right of others
 
@@ -304,8 +224,7 @@ reach-found (answer t) e =
 reach-found (refused n) e = never-refused (sym e)
 
 pub reach-refused : (a : Answer TreesRead) {n : ℕ} → refused n ≡ reached a → a ≡ refused n
-reach-refused (answer t) e = never-refused e
-reach-refused (refused m) {n} e = let f : m ≡ n = cc in ap refused f
+reach-refused a e = then-refused a _ (sym e)
 
 pub inner-found : (bytes : List ℕ) (room children after next : ℕ) (v u : Work) (p end inner : ℕ) → next < 256
     → answer (record { next = p; used = end; quota = inner }) ≡ reached (treesAt (room - 1) children bytes after (next + 1))
@@ -439,7 +358,7 @@ again bytes at trees room used w {ids} {quotas} {ends} {sums} {ids2} {quotas2} {
     let one : EntryIn v next id quota (next + 1 + size (c .trees)) (quota + whole (c .trees)) =
     rw (← i .counted, i .at-inner) (entry-in next id quota end (quota + inner) (i .kept) (r .roomy) y l) in
     let s = stored-agree (work ids2 quotas2 ends2 sums2) v (next + 1) (c .trees) (entry-above ids2 quotas2 ends2 sums2 next end (quota + inner) (next + 1 + size (c .trees))) (i .stands) in
-    let t : Stored v next (tree id quota (c .trees) none) = (one, (entry-positive bytes place (sym e) .1, small), s, tt) in
+    let t : Stored v next (tree id quota (c .trees) none) = (one, (entry-some bytes place (sym e) .1, small), s, tt) in
     record {
       done = append (r .done) (tree id quota (c .trees) none);
       ahead =
@@ -461,33 +380,8 @@ again bytes at trees room used w {ids} {quotas} {ends} {sums} {ids2} {quotas2} {
 -- ## A request
 
 -- one tree at least has one entry at least
-abbrev Some : Answer TreesRead → Type 0
-Some (answer t) = 1 ≤ size (t .trees)
-Some (refused n) = Unit {0}
-
-cond-some : (b : Bool) (x y : Answer TreesRead) → Some x → Some y → Some (cond b x y)
-cond-some true x y h k = h
-cond-some false x y h k = k
-
-then-some : {A : Type 0} (a : Answer A) (f : A → Answer TreesRead) → ((x : A) → Some (f x)) → Some (then a f)
-then-some (answer x) f h = h x
-then-some (refused n) f h = tt
-
-by-some : (below : ℕ → ℕ → ℕ → Answer TreesRead) (deep : Bool) (n : ℕ) (bytes : List ℕ) (at used : ℕ) → Some (treesBy below deep (suc n) bytes at used)
-unfolding treesBy
-by-some below deep n bytes at used =
-    cond-some (ltb used 256) _ _
-    (cond-some deep _ _ tt
-    (then-some (entryAt bytes at) _ (λ e.
-    then-some (below (e .children) (e .next) (used + 1)) _ (λ c.
-    then-some (treesBy below deep n bytes (c .next) (c .used)) _ (λ r. omega arith)))))
-    tt
-
-pub trees-some : (room n : ℕ) (bytes : List ℕ) (at used : ℕ) {t : TreesRead} → treesAt room n bytes at used ≡ answer t → 1 ≤ n → 1 ≤ size (t .trees)
-unfolding treesAt
-trees-some room zero bytes at used e l = absurd (omega arith)
-trees-some zero (suc n) bytes at used e l = subst (λ (a : Answer TreesRead). Some a) e (by-some _ true n bytes at used)
-trees-some (suc room) (suc n) bytes at used e l = subst (λ (a : Answer TreesRead). Some a) e (by-some _ false n bytes at used)
+trees-some : (room n : ℕ) (bytes : List ℕ) (at used : ℕ) {t : TreesRead} → treesAt room n bytes at used ≡ answer t → 1 ≤ n → 1 ≤ size (t .trees)
+trees-some room n bytes at used {t} e l = omega (arith, read-trees room n bytes at used e .some l, size-length (t .trees))
 
 pub unheard : (bytes : List ℕ) {n : ℕ} (w : Work) → requestOf bytes ≡ refused n → (refused n ≡ summary (requestOf bytes)) × HeardIn (requestOf bytes) w
 unheard bytes w e = (rw e, rw e tt)
@@ -558,7 +452,7 @@ module _ (bytes : List ℕ) where
       let n : u ≡ size (t .trees) = omega (arith, f .1 .1 .1 .0) in
       let j = subst (λ (a : Answer TreesRead). Walked a 0 w v) (f .1 .0) k in (
         summary-is x d (t .trees) n (sym (f .1 .1 .1 .1)) ∙ sym (ap summary r),
-        rw r (j .0, trees-some 16 m bytes s 0 (f .1 .0) (positive bytes q (sym h)), omega arith),
+        rw r (j .0, trees-some 16 m bytes s 0 (f .1 .0) (positive-some bytes q (sym h)), omega arith),
       )
 
 -- ## What a caller learns of a request
@@ -598,5 +492,4 @@ understood (answer q) w e h =
     }
 
 pub not-understood : (a : Answer Request) {n : ℕ} → refused n ≡ summary a → a ≡ refused n
-not-understood (answer q) e = never-refused e
-not-understood (refused m) {n} e = let f : m ≡ n = cc in ap refused f
+not-understood a e = then-refused a _ (sym e)

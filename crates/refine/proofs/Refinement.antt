@@ -3,7 +3,7 @@ use mathlib.Core.Path.{_≡_, sym, _∙_}
 use mathlib.Core.Bool.{true}
 use mathlib.Core.List.{List}
 use mathlib.Core.Logic.{inl, inr, _↔_}
-use Prim.Native.Nat.{ℕ, _+_, _-_, _≤_}
+use Prim.Native.Nat.{ℕ, _+_, _≤_}
 use native.Mathlib.Omega.{arith}
 use lib.ListN.{length}
 use borrow.Author.Tests.{le-leb}
@@ -25,7 +25,7 @@ use Rattle.refine.specs.Refine.{groupsOf, lOf, rOf, refineRows}
 use Rattle.refine.specs.Theorems.{EntryIn, OtherIn, qOf, boxIn, subgroupIn, Cut, Promises}
 use Rattle.refine.proofs.Lookup.{rowIn, l-row, r-row, quota-row}
 use Rattle.refine.proofs.Soundness.{Parted, clear-apart, sound-ids, ids-sound}
-use Rattle.refine.proofs.After.{entry-row, distinct-after, groups-after, length-after, length-rows, entry-after}
+use Rattle.refine.proofs.After.{entry-row, distinct-after, groups-after, length-after, groups-length, entry-after}
 use Rattle.refine.proofs.Cutting.{Refining, refines, Inside, entry-inside, entries-apart, entry-once, other-row, sound-after}
 
 -- two comparisons that say the same
@@ -48,8 +48,8 @@ in-above : (a q b p c k : ℕ) → a ≤ c → c + k ≤ a + q → 1 ≤ k → 1
 in-above a q b p c k h j i m (inl n) = omega arith
 in-above a q b p c k h j i m (inr n) = omega arith
 
--- by the rows
-by-rows : (t : List Row) (x y : ℕ) → subgroupIn t x y ≡ subgroup (rowIn x t .l) (rowIn x t .r) (rowIn y t .l) (rowIn y t .r)
+-- the order of two groups, by their rows
+pub by-rows : (t : List Row) (x y : ℕ) → subgroupIn t x y ≡ subgroup (rowIn x t .l) (rowIn x t .r) (rowIn y t .l) (rowIn y t .r)
 by-rows t x y = rw (l-row x t, r-row x t, l-row y t, r-row y t)
 
 box-row : (t : List Row) → Distinct (groupsOf t) → (x : ℕ) → boxIn t x ≡ boxOf (rowIn x t .l) (rowIn x t .r) (rowIn x t .q)
@@ -135,7 +135,7 @@ module _ {room : ℕ} {q : Request} {t : List Row} (h : Refining room q t) where
   pub promised : Promises room q t (refineRows q t)
   promised =
       let n = length-after (refines h) in
-      let m : length (refineRows q t) ≤ room = omega (arith, h .ok .fits, length-rows t) in
+      let m : length (refineRows q t) ≤ room = omega (arith, h .ok .fits, groups-length t) in
       record {
         refined-sound = ids-sound (refineRows q t) (sound-after h);
         refined-length = n;

@@ -9,7 +9,7 @@ use native.Mathlib.Nat.{zero-add}
 use lib.Dec.{eqb}
 use borrow.Author.Tests.{eqb-true, ne-eqb}
 use Rattle.request.specs.Entries.{Entry, entry, pick, sum, oneAt, quotaAt, count, quotaOf}
-use Rattle.request.proofs.Sums.{quota-none}
+use Rattle.request.proofs.Sums.{quota-none, sum-at}
 use Rattle.refine.specs.Refine.{without}
 
 -- f, but nothing at the id u
@@ -53,16 +53,12 @@ module _ (x u : ℕ) (n : x ≢ u) where
       (elim (eqb u (e .id)) as (λ b. eqb u (e .id) ≡ b → pick b 0 (quotaAt x e) ≡ quotaAt x e)
       [ true ↦ λ p. sym (ap (λ c. pick c (e .quota) 0) (ne-eqb x (e .id) (λ k. n (k ∙ sym (eqb-true u (e .id) p))))) | false ↦ λ p. refl ]) refl
 
-sum-same : (f g : Entry → ℕ) → ((e : Entry) → f e ≡ g e) → (s : List Entry) → sum f s ≡ sum g s
-sum-same f g h [] = refl
-sum-same f g h (e ∷ s) = omega (arith, h e, sum-same f g h s)
-
 module _ (x u : ℕ) (s : List Entry) (n : x ≢ u) where
   pub count-but : sum (but u (oneAt x)) s ≡ count x s
-  count-but = sum-same (but u (oneAt x)) (oneAt x) (one-but x u n) s
+  count-but = sum-at (but u (oneAt x)) (oneAt x) s (λ e _. one-but x u n e)
 
   pub quotas-but : sum (but u (quotaAt x)) s ≡ quotaOf x s
-  quotas-but = sum-same (but u (quotaAt x)) (quotaAt x) (quota-but x u n) s
+  quotas-but = sum-at (but u (quotaAt x)) (quotaAt x) s (λ e _. quota-but x u n e)
 
   pub count-without : count x (without u s) ≡ count x s
   count-without = sum-without (oneAt x) u s ∙ count-but

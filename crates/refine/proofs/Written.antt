@@ -1,33 +1,33 @@
 -- The four columns after an accepted request.
-use mathlib.Core.Path.{_≡_, refl, ap, ap₂, sym, _∙_}
-use mathlib.Core.Bool.{Bool, true, false, cond}
+use mathlib.Core.Path.{_≡_, refl, ap, sym, _∙_}
+use mathlib.Core.Bool.{Bool, true, false}
 use mathlib.Core.List.{List, [], _∷_, _++_, map}
 use Prim.Native.Nat.{ℕ, zero, suc, _+_, _-_, _≤_, _<_}
 use native.Mathlib.Omega.{arith}
-use native.Mathlib.Numerals.{add-one}
 use lib.Dec.{eqb}
-use lib.ListN.{length, getD, length-map}
+use lib.ListN.{length, getD}
 use borrow.Author.Tests.{eq-eqb, ne-eqb, eqb-true}
-use Rattle.rules.specs.Answers.{Answer, answer}
-use Rattle.request.specs.Entries.{Entry, entry, pick, count, quotaOf, before, Positive, Distinct}
-use Rattle.request.specs.Forest.{preL, left, right}
-use Rattle.request.specs.Numbering.{size, whole, lefts, rights}
+use Rattle.rules.specs.Answers.{answer}
+use Rattle.request.specs.Entries.{Entry, entry, pick, count, quotaOf, before, Distinct}
+use Rattle.request.specs.Numbering.{whole, lefts, rights}
 use Rattle.request.specs.Request.{Request, entries, leftOf, rightOf}
 use Rattle.request.specs.Acceptance.{accepted}
 use Rattle.request.proofs.Accepting.{Accepted, request-accepted}
+use Rattle.request.proofs.Sums.{quota-none}
 use Rattle.request.proofs.Numbering.{size-length, whole-total, lefts-are, rights-are}
 use Rattle.table.specs.Columns.{Row, Columns, columns, rowAt, rowsFrom, rows, put, overlay}
-use Rattle.table.specs.Check.{checked, somePair, sameId}
+use Rattle.table.specs.Check.{checked}
 use Rattle.table.proofs.Rows.{rows-length}
 use Rattle.table.specs.Sound.{SoundRow}
 use Rattle.table.proofs.Passing.{Passed, check-passed}
 use Rattle.table.proofs.Soundness.{check-sound}
 use Rattle.refine.specs.Refine.{groupsOf, lOf, rOf, rowFor, refineRows}
 use Rattle.refine.specs.Placing.{placed, PlaceIn}
-use Rattle.refine.specs.Work.{Work, Stored, Told, Boxed, listed, directionBy}
+use Rattle.refine.specs.Work.{Work, Told, Boxed, listed, directionBy}
 use Rattle.refine.proofs.Lookup.{rowIn, l-row, r-row, quota-row, ids-distinct}
-use Rattle.refine.proofs.Placement.{column-after}
-use Rattle.refine.proofs.Entering.{Values, values-within, stored-listed, quotas-stand, ids-stand, stored-positive}
+use Rattle.refine.proofs.After.{groups-length}
+use Rattle.refine.proofs.Placement.{count-map, column-after}
+use Rattle.refine.proofs.Entering.{values-within, told-listed, entries-listed, quotas-stand, ids-stand, stored-positive, map-self}
 
 -- the numbers of the group that stands first at row i
 module _ (c : Columns) (n x i : ℕ) (p : PlaceIn (c .id) n x i) (h : i < n) where
@@ -54,28 +54,15 @@ module _ (c : Columns) (n x i : ℕ) (p : PlaceIn (c .id) n x i) (h : i < n) whe
   quota-at d = quota-row x (rows c n) (d x) ∙ ap (λ (w : Row). w .q) row-at
 
 -- the value at the id u, where it goes by the id
-quota-none : (g : ℕ → ℕ) (u : ℕ) (s : List Entry) → count u s ≡ 0 → quotaOf u (map (λ e. entry (e .id) (g (e .id))) s) ≡ 0
-quota-none g u [] h = refl
-quota-none g u (e ∷ s) h =
-    (elim (eqb u (e .id)) as (λ b. pick b 1 0 + count u s ≡ 0 → pick b (g (e .id)) 0 + quotaOf u (map (λ e. entry (e .id) (g (e .id))) s) ≡ 0)
-    [ true ↦ λ h. let z : ⊥ = omega arith in absurd z | false ↦ λ h. omega (arith, quota-none g u s (omega arith)) ]) h
-
 by-head : (g : ℕ → ℕ) (u : ℕ) (e : Entry) (s : List Entry) (b : Bool) → eqb u (e .id) ≡ b
     → (count u s ≡ 1 → quotaOf u (map (λ e. entry (e .id) (g (e .id))) s) ≡ g u) → pick b 1 0 + count u s ≡ 1
     → pick b (g (e .id)) 0 + quotaOf u (map (λ e. entry (e .id) (g (e .id))) s) ≡ g u
-by-head g u e s true f ih h = let v : e .id ≡ u = sym (eqb-true u (e .id) f) in omega (arith, quota-none g u s (omega arith), ap g v)
+by-head g u e s true f ih h = let v : e .id ≡ u = sym (eqb-true u (e .id) f) in omega (arith, quota-none u (map (λ e. entry (e .id) (g (e .id))) s) (count-map (λ e. g (e .id)) u s ∙ omega arith), ap g v)
 by-head g u e s false f ih h = omega (arith, ih (omega arith))
 
 quota-by-id : (g : ℕ → ℕ) (u : ℕ) (s : List Entry) → count u s ≡ 1 → quotaOf u (map (λ e. entry (e .id) (g (e .id))) s) ≡ g u
 quota-by-id g u [] h = let z : ⊥ = omega arith in absurd z
 quota-by-id g u (e ∷ s) h = by-head g u e s (eqb u (e .id)) refl (quota-by-id g u s) h
-
-pub map-self : (s : List Entry) → map (λ e. entry (e .id) (e .quota)) s ≡ s
-map-self [] = refl
-map-self (e ∷ s) = ap (λ t. e ∷ t) (map-self s)
-
-pub groups-length : (t : List Row) → length (groupsOf t) ≡ length t
-groups-length t = length-map t (λ w. entry (w .id) (w .q))
 
 -- how often an id comes does not hang on the values
 pub count-any : (x : ℕ) (ids v v′ : List ℕ) (at n : ℕ) → count x (listed ids v at n) ≡ count x (listed ids v′ at n)
@@ -102,27 +89,25 @@ module _ (c : Columns) (n u own : ℕ) (a : Request) (w : Work) (up : Bool) (m s
 
   -- the entries with their ids, and with any values
   ids-listed : listed (w .ids) (w .ids) 0 m ≡ map (λ e. entry (e .id) (e .id)) (entries a)
-  ids-listed = ap (listed (w .ids) (w .ids) 0) (told .entries-are) ∙ stored-listed w (w .ids) (λ e. e .id) 0 (a .trees) (told .stored) (ids-stand w 0 (a .trees) (told .stored))
+  ids-listed = told-listed told (w .ids) (λ e. e .id) (ids-stand w 0 (a .trees) (told .stored))
 
   quotas-listed : listed (w .ids) (w .quotas) 0 m ≡ map (λ e. entry (e .id) (e .quota)) (entries a)
-  quotas-listed = ap (listed (w .ids) (w .quotas) 0) (told .entries-are) ∙ stored-listed w (w .quotas) (λ e. e .quota) 0 (a .trees) (told .stored) (quotas-stand w 0 (a .trees) (told .stored))
+  quotas-listed = told-listed told (w .quotas) (λ e. e .quota) (quotas-stand w 0 (a .trees) (told .stored))
 
   pub once-listed : (v : List ℕ) → count u (listed (w .ids) v 0 m) ≡ 1
-  once-listed v = count-any u (w .ids) v (w .quotas) 0 m ∙ ap (count u) quotas-listed ∙ ap (count u) (map-self (entries a)) ∙ once
+  once-listed v = count-any u (w .ids) v (w .quotas) 0 m ∙ ap (count u) (entries-listed told) ∙ once
 
   -- the numbers that the walk gave out, in front of what else the work column has
   module _ (nl rest : List ℕ) (e : nl ≡ lefts (directionBy up) (getD (c .l) own 0) (a .trees) ++ rest) where
     l-listed : listed (w .ids) nl 0 m ≡ map (λ e. entry (e .id) (getD (c .l) own 0 + before (e .id) (leftOf a))) (entries a)
     l-listed =
-        ap (listed (w .ids) nl 0) (told .entries-are)
-        ∙ stored-listed w nl (λ e. getD (c .l) own 0 + before (e .id) (leftOf a)) 0 (a .trees) (told .stored)
+        told-listed told nl (λ e. getD (c .l) own 0 + before (e .id) (leftOf a))
         (rw (e, told .direction-is, lefts-are (a .direction) (getD (c .l) own 0) (a .trees) (stored-positive w 0 (a .trees) (told .stored)) (taken .single)) (values-within [] (map (λ e. getD (c .l) own 0 + before (e .id) (leftOf a)) (entries a)) rest))
 
   module _ (nr rest : List ℕ) (e : nr ≡ rights (directionBy up) (getD (c .r) own 0) (a .trees) ++ rest) where
     r-listed : listed (w .ids) nr 0 m ≡ map (λ e. entry (e .id) (getD (c .r) own 0 + before (e .id) (rightOf a))) (entries a)
     r-listed =
-        ap (listed (w .ids) nr 0) (told .entries-are)
-        ∙ stored-listed w nr (λ e. getD (c .r) own 0 + before (e .id) (rightOf a)) 0 (a .trees) (told .stored)
+        told-listed told nr (λ e. getD (c .r) own 0 + before (e .id) (rightOf a))
         (rw (e, told .direction-is, rights-are (a .direction) (getD (c .r) own 0) (a .trees) (stored-positive w 0 (a .trees) (told .stored)) (taken .single)) (values-within [] (map (λ e. getD (c .r) own 0 + before (e .id) (rightOf a)) (entries a)) rest))
 
   l-old : lOf (a .exploded) (rows c n) ≡ getD (c .l) own 0

@@ -1,5 +1,4 @@
 -- What the inner answers of refine say.
-use Prim.Native.Nat.{ℕ}
 use Rattle.rules.specs.Answers.{Answer, answer, refused}
 use Rattle.rules.specs.Refusals.{refusalNumber}
 use Rattle.request.specs.Reading.{EntryRead}

@@ -1,15 +1,14 @@
 -- The work columns of refine: a request's entries in its order, each with its id, its quota, where its subtree ends and its subtree's quota.
 use mathlib.Core.Path.{_≡_}
-use mathlib.Core.Bool.{Bool, true, false, cond}
+use mathlib.Core.Bool.{Bool, true, false}
 use mathlib.Core.List.{List, [], _∷_}
 use Prim.Native.Nat.{ℕ, zero, suc, _+_, _≤_, _<_}
-use lib.Dec.{eqb}
 use lib.ListN.{length, getD}
 use Rattle.rules.specs.Answers.{Answer, answer, refused, then}
 use Rattle.rules.specs.Limits.{greatest, mostEntries}
 use Rattle.request.specs.Entries.{Entry, entry}
 use Rattle.request.specs.Forest.{Forest, none, tree, Direction, upright, inverted}
-use Rattle.request.specs.Numbering.{whole, size, lefts, rights}
+use Rattle.request.specs.Numbering.{whole, size}
 use Rattle.request.specs.Reading.{TreesRead}
 use Rattle.request.specs.Request.{Request}
 

@@ -1,7 +1,7 @@
 -- The numbers that a walk over the trees finds are the quotas before each entry in its sequence.
-use mathlib.Core.Path.{_≡_, refl, ap, ap₂, sym, _∙_}
+use mathlib.Core.Path.{_≡_, refl, ap₂, sym, _∙_}
 use mathlib.Core.Bool.{Bool, true, false}
-use mathlib.Core.List.{List, [], _∷_, _++_, map}
+use mathlib.Core.List.{List, [], _∷_, _++_, map, map-append}
 use Prim.Native.Nat.{ℕ, _+_, _≤_}
 use native.Mathlib.Omega.{arith}
 use lib.Dec.{eqb}
@@ -9,7 +9,7 @@ use lib.ListN.{length, length-append}
 use Rattle.request.specs.Entries.{pick, quota, oneAt, noQuota, Entry, entry, total, count, before, Distinct, Positive}
 use Rattle.request.specs.Forest.{Forest, none, tree, Direction, upright, inverted, preL, preR, postL, postR, left, right}
 use Rattle.request.specs.Numbering.{whole, size, upL, upR, downL, downR, lefts, rights}
-use Rattle.request.proofs.Sums.{sum-append, eqb-same}
+use Rattle.request.proofs.Sums.{sum-append, eqb-same, count-head}
 use Rattle.request.proofs.Trees.{Root, Inside, Beyond, at-root, at-inside, at-beyond}
 
 pub size-length : (t : Forest) → size t ≡ length (preL t)
@@ -20,14 +20,10 @@ pub whole-total : (t : Forest) → whole t ≡ total (preL t)
 whole-total none = refl
 whole-total (tree i q c r) = omega (arith, sum-append quota (preL c) (preL r), whole-total c, whole-total r)
 
-map-append : {A B : Type 0} (f : A → B) (s t : List A) → map f (s ++ t) ≡ map f s ++ map f t
-map-append f [] t = refl
-map-append f (x ∷ s) t = ap (λ l. f x ∷ l) (map-append f s t)
-
 -- two functions that agree at the entries of a list
 map-at : (f g : Entry → ℕ) (s : List Entry) → ((e : Entry) → 1 ≤ count (e .id) s → f e ≡ g e) → map f s ≡ map g s
 map-at f g [] h = refl
-map-at f g (e ∷ s) h = ap₂ (λ x l. x ∷ l) (h e (rw (eqb-same (e .id)) (omega arith))) (map-at f g s (λ v k. h v (omega arith)))
+map-at f g (e ∷ s) h = ap₂ (λ x l. x ∷ l) (h e (count-head (e .id) s)) (map-at f g s (λ v k. h v (omega arith)))
 
 pub pick-false : (b : Bool) → pick b 1 0 ≡ 0 → b ≡ false
 pick-false true h = absurd (omega arith)

@@ -1,31 +1,21 @@
 -- What a request that was read promises.
 use mathlib.Core.Path.{_≡_, refl, ap}
-use mathlib.Core.Bool.{Bool, true, false, cond}
+use mathlib.Core.Bool.{Bool, true, false}
 use mathlib.Core.List.{List}
 use Prim.Native.Nat.{ℕ, zero, suc, _+_, _≤_, _<_}
 use native.Mathlib.Omega.{arith}
 use lib.Dec.{eqb, ltb, leb}
 use lib.ListN.{length, length-append}
 use borrow.Author.Tests.{eqb-false, ltb-true, ne-eqb}
-use Rattle.rules.specs.Answers.{Answer, answer, refused, then}
+use Rattle.rules.specs.Answers.{Answer, answer}
 use Rattle.rules.specs.Limits.{mostEntries, greatestDepth}
-use Rattle.rules.proofs.Answers.{same-answer, never-refused, peel}
+use Rattle.rules.proofs.Answers.{same-answer, never-refused, peel, wanted, then-answer}
 use Rattle.number.specs.Number.{Number, numberAt}
-use Rattle.request.specs.Entries.{entry, pick, oneAt, noQuota, count, Positive}
+use Rattle.request.specs.Entries.{pick, oneAt, noQuota, count, Positive}
 use Rattle.request.specs.Forest.{Forest, none, tree, preL}
 use Rattle.request.specs.Request.{Request, entries}
 use Rattle.request.specs.Reading.{positiveAt, EntryRead, entryAt, TreesRead, treesBy, treesAt, requestOf}
 use Rattle.request.proofs.Sums.{sum-append}
-
--- an answer of two steps: both steps answer
-pub then-answer : {A B : Type 0} (a : Answer A) (f : A → Answer B) {b : B} → then a f ≡ answer b → (x : A) × (a ≡ answer x) × (f x ≡ answer b)
-then-answer (answer x) f e = (x, refl, e)
-then-answer (refused n) f e = never-refused e
-
--- an answer that wants a condition: it holds
-pub wanted : {A : Type 0} (b : Bool) (n : ℕ) (x : Answer A) {a : A} → cond b x (refused n) ≡ answer a → (b ≡ true) × (x ≡ answer a)
-wanted true n x e = (refl, e)
-wanted false n x e = never-refused e
 
 pub positive-some : (bytes : List ℕ) (at : ℕ) {n : Number} → positiveAt bytes at ≡ answer n → 1 ≤ n .value
 unfolding positiveAt

@@ -1,6 +1,6 @@
 -- Laws of sums over entries, and of the quotas before an id.
 use mathlib.Core.Path.{_≡_, refl, sym, _∙_}
-use mathlib.Core.Bool.{Bool, true, false, _&&_}
+use mathlib.Core.Bool.{Bool, true, false, _&&_, and-false}
 use mathlib.Core.List.{List, [], _∷_, _++_}
 use mathlib.Core.Logic.{_≢_, _⊎_, inl, inr, _↔_}
 use Prim.Native.Nat.{ℕ, zero, suc, _+_, _≤_, _<_}
@@ -148,10 +148,6 @@ later-l l r k s h = rw (lt-leb _ _ h)
 pub later-r : (l r k s : ℕ) → s < r → noLater l r k s ≡ false
 unfolding noLater
 later-r l r k s h = rw (lt-leb _ _ h) (and-false (leb l k))
-  where
-    and-false : (b : Bool) → (b && false) ≡ false
-    and-false true = refl
-    and-false false = refl
 
 pub later-iff : (l r k s l' r' k' s' : ℕ) → l ≤ k ↔ l' ≤ k' → r ≤ s ↔ r' ≤ s' → noLater l r k s ≡ noLater l' r' k' s'
 unfolding noLater

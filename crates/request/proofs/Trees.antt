@@ -1,6 +1,6 @@
 -- Theorem 1 of the paper, for the two directions: the order of the trees is the common order of the two sequences.
 use mathlib.Core.Path.{_≡_, refl, sym, _∙_}
-use mathlib.Core.Bool.{Bool, true, false, _&&_, _||_}
+use mathlib.Core.Bool.{Bool, true, false, _&&_, _||_, or-false}
 use mathlib.Core.List.{List, [], _∷_, _++_}
 use Prim.Native.Nat.{ℕ, zero, suc, _+_, _≤_, _<_}
 use native.Mathlib.Omega.{arith}
@@ -133,34 +133,31 @@ module _ (x i q : ℕ) (c r : Forest) (pos : Positive (preL (tree i q c r))) whe
       go false e zero k h = let h' = rw e at h in beyond (at-beyond e k (omega arith))
       go false e (suc n) k h = let h' = rw e at h in inside (at-inside e (omega arith) (omega arith))
 
--- an id that stands in no tree is no ancestor, and has none
-out-x : (t : Forest) (x y : ℕ) → count x (preL t) ≡ 0 → above t x y ≡ false
-out-x none x y h = refl
-out-x (tree i q c r) x y h =
+-- an id that stands in no tree is above none
+pub above-none : (t : Forest) (x y : ℕ) → count x (preL t) ≡ 0 → above t x y ≡ false
+above-none none x y h = refl
+above-none (tree i q c r) x y h =
     let k : pick (eqb x i) 1 0 + (count x (preL c) + count x (preL r)) ≡ 0 = omega (arith, sum-append (oneAt x) (preL c) (preL r)) in
-    go (eqb x i) k (out-x c x y (omega arith)) (out-x r x y (omega arith))
+    go (eqb x i) k (above-none c x y (omega arith)) (above-none r x y (omega arith))
   where
     go : (b : Bool) → pick b 1 0 + (count x (preL c) + count x (preL r)) ≡ 0 → above c x y ≡ false → above r x y ≡ false
         → ((b && (eqb y i || has y (preL c))) || (above c x y || above r x y)) ≡ false
     go true k p s = absurd (omega arith)
     go false k p s = rw (p, s)
 
-out-y : (t : Forest) (x y : ℕ) → count y (preL t) ≡ 0 → above t x y ≡ false
-out-y none x y h = refl
-out-y (tree i q c r) x y h =
+-- and none is above it
+pub none-above : (t : Forest) (x y : ℕ) → count y (preL t) ≡ 0 → above t x y ≡ false
+none-above none x y h = refl
+none-above (tree i q c r) x y h =
     let k : pick (eqb y i) 1 0 + (count y (preL c) + count y (preL r)) ≡ 0 = omega (arith, sum-append (oneAt y) (preL c) (preL r)) in
     let z : count y (preL c) ≡ 0 = omega arith in
-    rw z (go (eqb x i) (eqb y i) k (out-y c x y z) (out-y r x y (omega arith)))
+    rw z (go (eqb x i) (eqb y i) k (none-above c x y z) (none-above r x y (omega arith)))
   where
     go : (a b : Bool) → pick b 1 0 + (count y (preL c) + count y (preL r)) ≡ 0 → above c x y ≡ false → above r x y ≡ false
         → ((a && (b || false)) || (above c x y || above r x y)) ≡ false
     go a true k p s = absurd (omega arith)
     go true false k p s = rw (p, s)
     go false false k p s = rw (p, s)
-
-or-false : (b : Bool) → (b || false) ≡ b
-or-false true = refl
-or-false false = refl
 
 module _ {x y i q : ℕ} {c r : Forest} where
   -- the order of two entries, by where they stand
@@ -179,13 +176,13 @@ module _ {x y i q : ℕ} {c r : Forest} where
   unfolding rel
   above-rel (root a) (root b) = rw (a .is-root, b .is-root)
   above-rel (root a) (inside b) = rw (a .is-root, b .is-root, b .in-c)
-  above-rel (root a) (beyond b) = rw (a .is-root, b .is-root, b .in-c, out-x c x y (a .in-c), out-x r x y (a .in-r))
-  above-rel (inside a) (root b) = rw (a .is-root, out-y c x y (b .in-c), out-y r x y (b .in-r))
-  above-rel (inside a) (inside b) = rw (a .is-root, out-x r x y (a .in-r)) (or-false (above c x y))
-  above-rel (inside a) (beyond b) = rw (a .is-root, out-y c x y (b .in-c), out-x r x y (a .in-r))
-  above-rel (beyond a) (root b) = rw (a .is-root, out-y c x y (b .in-c), out-y r x y (b .in-r))
-  above-rel (beyond a) (inside b) = rw (a .is-root, out-x c x y (a .in-c), out-y r x y (b .in-r))
-  above-rel (beyond a) (beyond b) = rw (a .is-root, out-x c x y (a .in-c))
+  above-rel (root a) (beyond b) = rw (a .is-root, b .is-root, b .in-c, above-none c x y (a .in-c), above-none r x y (a .in-r))
+  above-rel (inside a) (root b) = rw (a .is-root, none-above c x y (b .in-c), none-above r x y (b .in-r))
+  above-rel (inside a) (inside b) = rw (a .is-root, above-none r x y (a .in-r)) (or-false (above c x y))
+  above-rel (inside a) (beyond b) = rw (a .is-root, none-above c x y (b .in-c), above-none r x y (a .in-r))
+  above-rel (beyond a) (root b) = rw (a .is-root, none-above c x y (b .in-c), none-above r x y (b .in-r))
+  above-rel (beyond a) (inside b) = rw (a .is-root, above-none c x y (a .in-c), none-above r x y (b .in-r))
+  above-rel (beyond a) (beyond b) = rw (a .is-root, above-none c x y (a .in-c))
 
   upright-node : (a : Spot x i q c r) (b : Spot y i q c r)
       → (count x (preL c) ≡ 1 → count y (preL c) ≡ 1 → above c x y ≡ noLater (before x (preL c)) (before x (preR c)) (before y (preL c)) (before y (preR c)))

@@ -2,7 +2,7 @@
 use mathlib.Core.List.{List}
 use Prim.Native.Nat.{ℕ}
 use Rattle.request.specs.Entries.{Entry}
-use Rattle.request.specs.Forest.{Forest, Direction, preL, left, right, treeOrder}
+use Rattle.request.specs.Forest.{Forest, Direction, preL, left, right}
 
 pub record Request : Type 0 where
   pub exploded : ℕ

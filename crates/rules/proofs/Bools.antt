@@ -14,10 +14,6 @@ pub not-none : (a : Bool) → not a ≡ false → a ≡ true
 not-none true e = refl
 not-none false e = absurd (true≢false e)
 
-pub or-left : (a b : Bool) → a ≡ true → (a || b) ≡ true
-or-left true b e = refl
-or-left false b e = absurd (true≢false (sym e))
-
 pub or-right : (a b : Bool) → b ≡ true → (a || b) ≡ true
 or-right true b e = refl
 or-right false b e = e

@@ -6,7 +6,7 @@ use native.Mathlib.Omega.{arith}
 use lib.ListN.{length, set, length-append}
 use lib.Seq.{sets, sets-eq, length-sets}
 use borrow.Author.Tests.{le-leb, lt-leb}
-use Rattle.rules.specs.Answers.{Answer, answer, refused}
+use Rattle.rules.specs.Answers.{answer, refused}
 use Rattle.rules.specs.Buffers.{room, written, after}
 
 module _ (buffer : List ℕ) (at : ℕ) (bytes : List ℕ) where

@@ -4,7 +4,7 @@ use mathlib.Core.List.{List, [], _∷_, _++_, append-nil}
 use Prim.Native.Nat.{ℕ, zero, suc, _+_, _-_, _/_, _%_, _<_, _≤_}
 use native.Mathlib.Omega.{arith}
 use native.Mathlib.Numerals.{add-one}
-use lib.ListN.{length, set, take, drop, getD, length-set, length-append}
+use lib.ListN.{length, set, take, drop, getD, length-append}
 use lib.Seq.{sets, sets-eq, length-sets, set-comm, append-snoc, paste, paste-zero, paste-suc, length-paste, take-length}
 use Rattle.rules.specs.Buffers.{after}
 use Rattle.rules.proofs.Buffers.{after-all}

@@ -1,5 +1,5 @@
 -- `grant::decide` meets its contract. The loop's invariant: what is still to be read, with the tally so far, gives what is decided on the whole.
-use mathlib.Core.Path.{_≡_, refl, ap, sym, _∙_}
+use mathlib.Core.Path.{_≡_, ap, sym, _∙_}
 use Prim.Native.Nat.{_-_, _≤_}
 use native.Mathlib.Omega.{arith}
 use lib.ListN.{length}

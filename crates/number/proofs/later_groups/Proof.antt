@@ -3,7 +3,6 @@ use mathlib.Core.Path.{_∙_}
 use Prim.Native.Nat.{_-_, _<_}
 use lib.ListN.{getD}
 use denote.Ref.{now}
-use borrow.Author.Needs.{needs}
 use native.Mathlib.Omega.{arith}
 use Rattle.number.proofs.Reading.{Later, begins, cut, zero-last, ends, goes-on, Worth, worth, unit-low, fifth-small, fifth-whole}
 use Rattle.number.proofs.later_groups.Statement.{statement}

@@ -1,9 +1,9 @@
 -- `number::number_at` meets its contract: a first byte that is the only one, or the later groups above it.
 use mathlib.Core.Path.{_≡_, ap, sym, _∙_}
 use mathlib.Core.Bool.{true, false}
-use Prim.Native.Nat.{_+_, _-_, _%_, _<_, _≤_}
+use Prim.Native.Nat.{_+_, _-_, _%_, _<_}
 use native.Mathlib.Omega.{arith}
-use lib.ListN.{length, getD}
+use lib.ListN.{getD}
 use borrow.Author.Needs.{needs}
 use denote.Ref.{now}
 use Rattle.number.specs.Number.{numberAt, followed, above, groupsAt}

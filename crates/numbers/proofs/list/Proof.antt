@@ -1,6 +1,6 @@
 -- `numbers::list` is safe and ends: each number ends after the position where it starts.
-use mathlib.Core.Path.{_≡_, ap, sym, _∙_}
-use Prim.Native.Nat.{_-_, _<_, _≤_}
+use mathlib.Core.Path.{ap, sym, _∙_}
+use Prim.Native.Nat.{_-_, _≤_}
 use native.Mathlib.Omega.{arith}
 use lib.ListN.{length}
 use borrow.Author.Needs.{needs}

@@ -1,11 +1,10 @@
 -- `growth::lines::write_answer` meets its contract: a line for each case.
-use mathlib.Core.Path.{_≡_, ap, sym, _∙_}
-use mathlib.Core.List.{List, [], _∷_, _++_}
+use mathlib.Core.Path.{ap, sym, _∙_}
+use mathlib.Core.List.{[], _∷_, _++_}
 use Prim.Native.Nat.{_+_}
 use native.Mathlib.Omega.{arith}
 use lib.ListN.{length}
 use denote.Ref.{now}
-use Rattle.rules.specs.Answers.{answer, refused}
 use Rattle.rules.specs.Buffers.{after}
 use Rattle.table.specs.Says.{countedSays}
 use Rattle.growth.specs.Lines.{fieldText, lineText}

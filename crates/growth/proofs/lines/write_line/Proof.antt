@@ -1,7 +1,6 @@
 -- `growth::lines::write_line` meets its contract: the word, and then the number.
-use mathlib.Core.List.{_++_}
 use native.Mathlib.Omega.{arith}
-use lib.ListN.{length, length-append}
+use lib.ListN.{length-append}
 use denote.Ref.{now}
 use Rattle.rules.proofs.Buffers.{after-then}
 use Rattle.growth.specs.Lines.{fieldText}

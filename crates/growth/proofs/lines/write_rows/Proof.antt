@@ -1,11 +1,11 @@
 -- `growth::lines::write_rows` meets its contract. The loop's invariant: the rows above row i stand in the buffer.
-use mathlib.Core.Path.{_≡_, ap, sym, _∙_}
+use mathlib.Core.Path.{_≡_, ap, _∙_}
 use mathlib.Core.List.{List}
 use Prim.Native.Nat.{ℕ, _-_, _≤_}
 use native.Mathlib.Omega.{arith}
 use lib.ListN.{length}
 use denote.Ref.{now}
-use Rattle.table.specs.Columns.{Columns, columns, rows}
+use Rattle.table.specs.Columns.{columns, rows}
 use Rattle.rules.specs.Buffers.{after}
 use Rattle.growth.specs.Lines.{rowsText}
 use Rattle.growth.proofs.Printing.{Writes, write-begins, write-same, write-again}

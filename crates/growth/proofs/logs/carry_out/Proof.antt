@@ -4,9 +4,8 @@ use Prim.Native.Nat.{_-_}
 use native.Mathlib.Omega.{arith}
 use lib.ListN.{length}
 use borrow.Author.Needs.{needs}
-use Rattle.table.specs.Columns.{Columns, columns}
-use Rattle.table.specs.Says.{countedSays}
-use Rattle.growth.specs.Says.{requestSays, Countable}
+use Rattle.table.specs.Columns.{columns}
+use Rattle.growth.specs.Says.{requestSays}
 use Rattle.growth.proofs.Reading.{part-in, refined-countable}
 use Rattle.growth.proofs.Carrying.{Going, going-begins, going-same, line-room, going-again, going-ends, going-bad}
 use Rattle.growth.proofs.logs.carry_out.Statement.{statement}

@@ -1,5 +1,5 @@
 -- `growth::logs::grow` meets its contract: the room, the fresh pair, the requests, and then the table.
-use mathlib.Core.Path.{_≡_, ap, sym, _∙_}
+use mathlib.Core.Path.{ap, sym, _∙_}
 use native.Mathlib.Omega.{arith}
 use denote.Ref.{now}
 use Rattle.table.specs.Columns.{Columns, columns}

@@ -1,5 +1,5 @@
 -- `growth::logs::request_at` meets its contract: the length, and then the test against the bytes left.
-use mathlib.Core.Path.{_≡_, ap, sym, _∙_}
+use mathlib.Core.Path.{ap, sym, _∙_}
 use native.Mathlib.Omega.{arith}
 use Rattle.number.specs.Says.{drawnSays}
 use Rattle.number.proofs.Laws.{number-ends}

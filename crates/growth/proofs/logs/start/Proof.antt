@@ -1,10 +1,11 @@
 -- `growth::logs::start` meets its contract: two numbers, and then fresh.
-use mathlib.Core.Path.{_≡_, ap, sym, _∙_}
+use mathlib.Core.Path.{ap, sym, _∙_}
 use denote.Ref.{now}
+use Rattle.rules.proofs.Answers.{then-answer, then-refused}
 use Rattle.number.specs.Says.{drawnSays}
 use Rattle.table.specs.Columns.{Columns, columns, afterwards}
 use Rattle.table.specs.Says.{countedSays}
-use Rattle.growth.proofs.Reading.{first-bad, second-bad, fresh-bad, fresh-good, counted-refused, counted-answer, begun-refused, begun-answer}
+use Rattle.growth.proofs.Reading.{first-bad, second-bad, fresh-bad, fresh-good, begun-refused, begun-answer}
 use borrow.Author.Needs.{needs}
 use Rattle.growth.proofs.logs.start.Statement.{statement}
 use Rattle.growth.proofs.logs.start.Tie as tie
@@ -70,7 +71,7 @@ returns-3 c =
     let h = c .before .before .before .before .before .before .before .before .before .before .before .fresh .ensures in
     let e = sym (d .before .before .before .before .number-at .ensures) ∙ ap drawnSays (d .before .before .group .given .1) in
     let f = sym (d .number-at2 .ensures) ∙ ap drawnSays (c .before .before .before .before .before .before .before .before .before .before .before .before .before .before .before .before .before .quota .given .1) in
-    let g = counted-refused _ (sym (h .0) ∙ ap countedSays (c .before .why3 .given .1)) in
+    let g = then-refused _ _ (sym (h .0) ∙ ap countedSays (c .before .why3 .given .1)) in
     let t = table (d .before .before .before .before .before .before .before .before .before .before) in
     let b = begun-refused t _ (fresh-bad t _ e f g) in
     (b .0, h .1 ∙ ap (λ x. afterwards x t) g ∙ b .1)
@@ -93,7 +94,7 @@ returns-4 c =
     let h = c .before .before .before .before .before .before .before .before .before .before .fresh .ensures in
     let e = sym (d .before .before .before .before .number-at .ensures) ∙ ap drawnSays (d .before .before .group .given .1) in
     let f = sym (d .number-at2 .ensures) ∙ ap drawnSays (c .before .before .before .before .before .before .before .before .before .before .before .before .before .before .before .before .quota .given .1) in
-    let g = counted-answer _ (sym (h .0) ∙ ap countedSays (c .enum-told .given .1)) in
+    let g = then-answer _ _ (sym (h .0) ∙ ap countedSays (c .enum-told .given .1)) in
     let t = table (d .before .before .before .before .before .before .before .before .before .before) in
     let b = begun-answer t _ (fresh-good t _ e f (g .1)) in
     (b .0, h .1 ∙ ap (λ x. afterwards x t) (g .1) ∙ b .1)

@@ -2,16 +2,16 @@
 
 use mathlib.Core.Path.{_≡_, refl, ap, sym, _∙_, subst}
 use mathlib.Core.List.{List}
-use Prim.Native.Nat.{_+_, _-_, _≤_}
+use Prim.Native.Nat.{_+_, _-_}
 use native.Mathlib.Omega.{arith}
-use lib.ListN.{length, getD, set, length-set, take, drop}
+use lib.ListN.{getD, length-set}
 use borrow.Author.Needs.{needs}
 use denote.Ref.{now}
 use Rattle.boxes.specs.declared.Box.{Box}
 use Rattle.request.specs.Forest.{Forest}
-use Rattle.request.specs.Numbering.{lefts, rights, whole, size}
+use Rattle.request.specs.Numbering.{lefts, rights, whole}
 use Rattle.refine.specs.Work.{work, Boxed, directionBy}
-use Rattle.refine.proofs.NumberingLaws.{Numbers, Here, childOf, begins, here, done, never, child-is, left-is, inner-boxed, corner-asks, corner-fits, part-length, boxed-at, moves}
+use Rattle.refine.proofs.NumberingLaws.{Numbers, Here, childOf, begins, here, done, never, child-is, left-is, corner-asks, corner-fits, part-length, boxed-at, moves}
 use Prim.Native.Nat.{ℕ, _<_}
 use borrow.Fn.Kinds.{In}
 use borrow.Fn.PlainCycle.{Measures, is, falls, and}

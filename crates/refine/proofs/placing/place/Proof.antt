@@ -1,5 +1,4 @@
 -- `refine::placing::place` meets its contract. The loop's invariant: what is left to write makes the whole column.
-use mathlib.Core.Path.{_≡_, ap}
 use mathlib.Core.Logic.{⊎-elim}
 use Prim.Native.Nat.{_-_}
 use native.Mathlib.Omega.{arith}

@@ -1,14 +1,12 @@
 -- `refine::refining::explode` meets its contract: 20 to 24 in their order, then the rows.
-use mathlib.Core.Path.{_≡_, refl, ap, sym, _∙_}
-use Prim.Native.Nat.{ℕ, _≤_, _<_, _+_}
+use mathlib.Core.Path.{ap, sym}
 use native.Mathlib.Omega.{arith}
 use lib.ListN.{length}
 use denote.Ref.{now}
 use Rattle.rules.specs.Answers.{answer}
-use Rattle.request.specs.Request.{Request}
-use Rattle.table.specs.Columns.{Columns, columns, rows}
+use Rattle.table.specs.Columns.{Columns, columns}
 use Rattle.table.proofs.Passing.{Passed, check-passed}
-use Rattle.refine.specs.Work.{Work, work, Told}
+use Rattle.refine.specs.Work.{Work, work}
 use Rattle.refine.proofs.Judging.{refuses, unknown, not-one, id-taken, quota-wrong, rows-full, taken-up, accepts, rows-counted}
 use borrow.Author.Needs.{needs}
 use Rattle.refine.proofs.refining.explode.Statement.{statement}

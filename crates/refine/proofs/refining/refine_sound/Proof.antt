@@ -1,11 +1,11 @@
 -- `refine::refining::refine_sound` meets its contract: the request is read, and then exploded.
-use mathlib.Core.Path.{_≡_, ap, sym, _∙_}
+use mathlib.Core.Path.{ap, sym, _∙_}
 use denote.Ref.{now}
 use Rattle.request.specs.Reading.{requestOf}
 use Rattle.refine.specs.Refine.{refined}
 use Rattle.refine.specs.Says.{heardSays}
 use Rattle.refine.specs.Work.{Work, work, Told}
-use Rattle.refine.proofs.ReadingLaws.{Understood, understood, not-understood, roomy-kept}
+use Rattle.refine.proofs.ReadingLaws.{Understood, understood, not-understood}
 use borrow.Author.Needs.{needs}
 use Rattle.refine.proofs.refining.refine_sound.Statement.{statement}
 use Rattle.refine.proofs.refining.refine_sound.Tie as tie
