@@ -10,29 +10,29 @@ use Rattle.rules.specs.Answers.{Answer, answer, refused, then}
 use Rattle.rules.proofs.Answers.{then-same}
 use Rattle.grant.specs.Grant.{Grant, GrantRead, grantAt, grantsOf}
 use Rattle.grant.specs.Decision.{Decision, questionBad, decided}
-use Rattle.grant.specs.Tally.{tally, weigh, weighAll, told}
+use Rattle.grant.specs.Tally.{tally, countIfApplies, countAll, decisionOf}
 use Rattle.grant.specs.declared.Tally.{Tally}
 use Rattle.grant.proofs.Listing.{inFront, grantsAt, grants-unfold, grants-done, grants-all, grants-good}
 use Rattle.grant.proofs.Tallies.{tally-decides}
 
 module _ (feature l r day : ℕ) (bytes : List ℕ) where
   abbrev pub endsAs : Tally → List Grant → Answer Decision
-  endsAs t gs = answer (told (weighAll feature l r day t gs))
+  endsAs t gs = answer (decisionOf (countAll feature l r day t gs))
 
   unfoldable pub outcome : ℕ → Tally → Answer Decision
   outcome at t = then (grantsAt bytes at) (endsAs t)
 
-  pub outcome-ends : (at : ℕ) (t : Tally) → length bytes ≤ at → outcome at t ≡ answer (told t)
-  unfolding outcome weighAll
+  pub outcome-ends : (at : ℕ) (t : Tally) → length bytes ≤ at → outcome at t ≡ answer (decisionOf t)
+  unfolding outcome countAll
   outcome-ends at t h = ap (λ (a : Answer (List Grant)). then a (endsAs t)) (grants-done bytes at h)
 
-  joined : (g : GrantRead) (rest : Answer (List Grant)) (t : Tally) → then (inFront g rest) (endsAs t) ≡ then rest (endsAs (weigh feature l r day t (g .grant)))
-  unfolding weighAll
+  joined : (g : GrantRead) (rest : Answer (List Grant)) (t : Tally) → then (inFront g rest) (endsAs t) ≡ then rest (endsAs (countIfApplies feature l r day t (g .grant)))
+  unfolding countAll
   joined g (answer gs) t = refl
   joined g (refused n) t = refl
 
   pub outcome-more : (at : ℕ) (t : Tally) {g : GrantRead} → at < length bytes → grantAt bytes at ≡ answer g
-      → outcome at t ≡ outcome (g .next) (weigh feature l r day t (g .grant))
+      → outcome at t ≡ outcome (g .next) (countIfApplies feature l r day t (g .grant))
   unfolding outcome
   outcome-more at t {g} h e = rw (grants-unfold bytes at h, e) (joined g (grantsAt bytes (g .next)) t)
 

@@ -10,7 +10,7 @@ use Rattle.rules.proofs.Cases.{by-lt, by-eq}
 use Rattle.rules.proofs.Bools.{or-none, and-both}
 use Rattle.grant.specs.Grant.{Grant, grantBad, someBad}
 use Rattle.grant.specs.Decision.{Window, window, windows, isOpen, runs, hasEnded, yetToBegin, those, someOpen, greatestLast, leastFirst, onOpen, onUntil, ended, ahead, tried, dated, appliesTo}
-use Rattle.grant.specs.Tally.{tally, earlier, countIn, weigh, weighAll, told}
+use Rattle.grant.specs.Tally.{tally, earlier, countIn, countIfApplies, countAll, decisionOf}
 use Rattle.grant.specs.declared.Tally.{Tally}
 
 -- ## Tests on windows
@@ -134,42 +134,42 @@ soonest-least day a (w ∷ ws) h all =
 abbrev pub nothing : Tally
 nothing = tally false 0 0 0
 
-told-tried : (day : ℕ) (running over coming : List Window) → All (hasEnded day) over → All (yetToBegin day) coming
-    → told (summary nothing running over coming) ≡ tried running over coming
-unfolding told tried someOpen isOpen greatestLast soonest hasEnded yetToBegin earlier
-told-tried day (w ∷ ws) over coming ao ac = go (someOpen (w ∷ ws)) refl
+decision-tried : (day : ℕ) (running over coming : List Window) → All (hasEnded day) over → All (yetToBegin day) coming
+    → decisionOf (summary nothing running over coming) ≡ tried running over coming
+unfolding decisionOf tried someOpen isOpen greatestLast soonest hasEnded yetToBegin earlier
+decision-tried day (w ∷ ws) over coming ao ac = go (someOpen (w ∷ ws)) refl
   where
     go : (b : Bool) → someOpen (w ∷ ws) ≡ b
-        → told (tally b (greatestLast 0 (w ∷ ws)) (greatestLast 0 over) (soonest 0 coming)) ≡ cond b onOpen (onUntil (greatestLast (w .last) ws))
+        → decisionOf (tally b (greatestLast 0 (w ∷ ws)) (greatestLast 0 over) (soonest 0 coming)) ≡ cond b onOpen (onUntil (greatestLast (w .last) ws))
     go true e = refl
     go false e =
         let o = eqb-false (w .last) 0 (or-none (eqb (w .last) 0) (someOpen ws) e .0) in
         let m : max 0 (w .last) ≡ w .last = omega arith in
         let k = greatest-least (w .last) ws in
         rw (m, lt-ltb 0 (greatestLast (w .last) ws) (omega arith))
-told-tried day [] (w ∷ ws) coming ao ac = last
+decision-tried day [] (w ∷ ws) coming ao ac = last
   where
-    last : told (tally false 0 (greatestLast 0 (w ∷ ws)) (soonest 0 coming)) ≡ ended (greatestLast (w .last) ws)
+    last : decisionOf (tally false 0 (greatestLast 0 (w ∷ ws)) (soonest 0 coming)) ≡ ended (greatestLast (w .last) ws)
     last =
         let o = eqb-false (w .last) 0 (not-true _ (and-both (not (eqb (w .last) 0)) _ (ao .0) .0)) in
         let m : max 0 (w .last) ≡ w .last = omega arith in
         let k = greatest-least (w .last) ws in
         rw (m, lt-ltb 0 (greatestLast (w .last) ws) (omega arith))
-told-tried day [] [] (w ∷ ws) ao ac = first
+decision-tried day [] [] (w ∷ ws) ao ac = first
   where
-    first : told (tally false 0 0 (soonest 0 (w ∷ ws))) ≡ ahead (leastFirst (w .first) ws)
+    first : decisionOf (tally false 0 0 (soonest 0 (w ∷ ws))) ≡ ahead (leastFirst (w .first) ws)
     first =
         let f = ltb-true day (w .first) (ac .0) in
         let i = soonest-least day (w .first) ws (omega arith) (ac .1) in
         rw (i .0, lt-ltb 0 (leastFirst (w .first) ws) (i .1))
-told-tried day [] [] [] ao ac = refl
+decision-tried day [] [] [] ao ac = refl
 
 -- the windows' tally says what the windows say
-pub tally-dated : (day : ℕ) (ws : List Window) → AllRight ws → told (counted day nothing ws) ≡ dated day ws
+pub tally-dated : (day : ℕ) (ws : List Window) → AllRight ws → decisionOf (counted day nothing ws) ≡ dated day ws
 unfolding dated
 tally-dated day ws r =
-    ap told (counted-kept day nothing ws r)
-    ∙ told-tried day (those (runs day) ws) (those (hasEnded day) ws) (those (yetToBegin day) ws) (those-all (hasEnded day) ws) (those-all (yetToBegin day) ws)
+    ap decisionOf (counted-kept day nothing ws r)
+    ∙ decision-tried day (those (runs day) ws) (those (hasEnded day) ws) (those (yetToBegin day) ws) (those-all (hasEnded day) ws) (those-all (yetToBegin day) ws)
 
 -- ## Grants
 
@@ -191,19 +191,19 @@ windows-right applies (g ∷ gs) e = let h = or-none (grantBad g) (someBad gs) e
     go true one rest = (one, rest)
     go false one rest = rest
 
-weigh-counted : (feature l r day : ℕ) (t : Tally) (gs : List Grant) → weighAll feature l r day t gs ≡ counted day t (windows window (appliesTo feature l r) gs)
-unfolding weighAll windows counted weigh
-weigh-counted feature l r day t [] = refl
-weigh-counted feature l r day t (g ∷ gs) = go (appliesTo feature l r g) (λ s. weigh-counted feature l r day s gs)
+all-counted : (feature l r day : ℕ) (t : Tally) (gs : List Grant) → countAll feature l r day t gs ≡ counted day t (windows window (appliesTo feature l r) gs)
+unfolding countAll windows counted countIfApplies
+all-counted feature l r day t [] = refl
+all-counted feature l r day t (g ∷ gs) = go (appliesTo feature l r g) (λ s. all-counted feature l r day s gs)
   where
-    go : (b : Bool) → ((s : Tally) → weighAll feature l r day s gs ≡ counted day s (windows window (appliesTo feature l r) gs))
-        → weighAll feature l r day (cond b (countIn t (g .first) (g .last) day) t) gs
+    go : (b : Bool) → ((s : Tally) → countAll feature l r day s gs ≡ counted day s (windows window (appliesTo feature l r) gs))
+        → countAll feature l r day (cond b (countIn t (g .first) (g .last) day) t) gs
         ≡ counted day t (cond b (window g ∷ windows window (appliesTo feature l r) gs) (windows window (appliesTo feature l r) gs))
     go true rest = rest (countIn t (g .first) (g .last) day)
     go false rest = rest t
 
 -- the tally of good grants says what is decided
 pub tally-decides : (feature l r day : ℕ) (gs : List Grant) → someBad gs ≡ false
-    → told (weighAll feature l r day nothing gs) ≡ dated day (windows window (appliesTo feature l r) gs)
+    → decisionOf (countAll feature l r day nothing gs) ≡ dated day (windows window (appliesTo feature l r) gs)
 tally-decides feature l r day gs e =
-    ap told (weigh-counted feature l r day nothing gs) ∙ tally-dated day (windows window (appliesTo feature l r) gs) (windows-right (appliesTo feature l r) gs e)
+    ap decisionOf (all-counted feature l r day nothing gs) ∙ tally-dated day (windows window (appliesTo feature l r) gs) (windows-right (appliesTo feature l r) gs e)

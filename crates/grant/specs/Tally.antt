@@ -26,16 +26,16 @@ countIn t first last day =
     (tally (t .endless) (max (t .on) last) (t .over) (t .coming))))
 
 -- a grant, counted in where it applies
-unfoldable pub weigh : (feature l r day : ℕ) → Tally → Grant → Tally
-weigh feature l r day t g = cond (appliesTo feature l r g) (countIn t (g .first) (g .last) day) t
+unfoldable pub countIfApplies : (feature l r day : ℕ) → Tally → Grant → Tally
+countIfApplies feature l r day t g = cond (appliesTo feature l r g) (countIn t (g .first) (g .last) day) t
 
-unfoldable pub weighAll : (feature l r day : ℕ) → Tally → List Grant → Tally
-weighAll feature l r day t [] = t
-weighAll feature l r day t (g ∷ gs) = weighAll feature l r day (weigh feature l r day t g) gs
+unfoldable pub countAll : (feature l r day : ℕ) → Tally → List Grant → Tally
+countAll feature l r day t [] = t
+countAll feature l r day t (g ∷ gs) = countAll feature l r day (countIfApplies feature l r day t g) gs
 
 -- the decision in the end
-unfoldable pub told : Tally → Decision
-told t =
+unfoldable pub decisionOf : Tally → Decision
+decisionOf t =
     cond (t .endless)
     onOpen
     (cond (ltb 0 (t .on))

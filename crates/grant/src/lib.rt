@@ -6,7 +6,7 @@ ghost use lib.Dec.{leb};
 ghost use Rattle.rules.specs.Answers.{answer};
 ghost use Rattle.grant.specs.Grant.{grant, checkedGrant, grantAt};
 ghost use Rattle.grant.specs.Decision.{appliesTo, decided, asked};
-ghost use Rattle.grant.specs.Tally.{tally, countIn, earlier, weigh as weighed, told as toldBy};
+ghost use Rattle.grant.specs.Tally.{tally, countIn, earlier, countIfApplies, decisionOf};
 ghost use Rattle.grant.specs.Says.{grantSays, decidedSays};
 use boxes::LValue;
 use boxes::RValue;
@@ -162,7 +162,7 @@ fn count_in(t: Tally, first: u32, last: u32, day: u32) -> Tally
 }
 
 // A grant, counted in where it applies to the pass and the feature.
-fn weigh(
+fn count_if_applies(
     t: Tally,
     feature: u32,
     l: u32,
@@ -174,7 +174,7 @@ fn weigh(
     first: u32,
     last: u32,
 ) -> Tally
-    ensures { λ s. ⌜ s ≡ weighed feature l r day t (grant of gl gr first last) ⌝ }
+    ensures { λ s. ⌜ s ≡ countIfApplies feature l r day t (grant of gl gr first last) ⌝ }
 {
     if of == feature {
         if covered(
@@ -190,8 +190,8 @@ fn weigh(
 }
 
 // What the tally says in the end.
-fn told(t: Tally) -> Decided
-    ensures { λ d. ⌜ decidedSays d ≡ answer (toldBy t) ⌝ }
+fn decision_of(t: Tally) -> Decided
+    ensures { λ d. ⌜ decidedSays d ≡ answer (decisionOf t) ⌝ }
 {
     if t.endless {
         return Decided::OnOpen;
@@ -238,12 +238,12 @@ pub fn decide(feature: u32, l: u32, r: u32, day: u32, grants: &[u8]) -> Decided
                 return Decided::Refused(why);
             }
             GrantDrawn::Grant(of, gl, gr, first, last, next) => {
-                t = weigh(t, feature, l, r, day, of, gl, gr, first, last);
+                t = count_if_applies(t, feature, l, r, day, of, gl, gr, first, last);
                 at = next;
             }
         }
     }
-    told(t)
+    decision_of(t)
 }
 
 // A question in bytes: feature, l, r and day (1 or 2 for a bad one, then 15), then a grant list.

@@ -20,7 +20,7 @@ use Rattle.table.specs.Fresh.{freshRows}
 use Rattle.table.proofs.Lengths.{Lengths, lengths-good}
 use Rattle.table.proofs.Passing.{check-passed, rows-good}
 use Rattle.refine.specs.Refine.{groupsOf, explodedRows, refined}
-use Rattle.refine.proofs.Refinement.{promises}
+use Rattle.refine.proofs.Refinement.{promises-of-rows}
 use Rattle.growth.specs.Growth.{Part, partAt, Begun, begun, begunAt, begunTable}
 use Rattle.growth.specs.Says.{Countable, Fitting}
 
@@ -65,7 +65,7 @@ refined-fits c count bytes {t} e =
     let p = check-passed c count (a .1) in
     let s : soundRows (a .0) ≡ answer (a .0) = rw (p .1) at (rows-good (rows c count) (p .0 .good)) in
     let q = request-accepted (length (c .id)) (groupsOf (a .0)) (b .0) (d .1) .1 in
-    let m = promises (length (c .id)) (a .0) bytes (b .0) s (b .1) (d .1 ∙ ap answer (sym q)) .refined-fits in
+    let m = promises-of-rows (length (c .id)) (a .0) bytes (b .0) s (b .1) (d .1 ∙ ap answer (sym q)) .refined-fits in
     omega (arith, ap length (same-answer (d .2)))
 
 -- and so for their count

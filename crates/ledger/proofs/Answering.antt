@@ -9,7 +9,7 @@ use borrow.Author.Tests.{ne-eqb, le-leb, lt-leb}
 use Rattle.rules.specs.Answers.{answer, refused}
 use Rattle.rules.proofs.Answers.{then-answer}
 use Rattle.rules.proofs.Cases.{by-eq}
-use Rattle.request.specs.Entries.{Entry, pick, oneAt, quotaAt, count, someEntry, Same}
+use Rattle.request.specs.Entries.{Entry, pick, oneAt, quotaAt, times, someEntry, Same}
 use Rattle.request.specs.Request.{Request, entries}
 use Rattle.request.specs.Reading.{requestOf}
 use Rattle.request.specs.Acceptance.{idTaken, accepted}
@@ -27,46 +27,46 @@ eqb-flip : (a b : ℕ) → eqb a b ≡ eqb b a
 eqb-flip a b = by-eq a b (λ e. rw e) (λ n. ne-eqb a b n ∙ sym (ne-eqb b a (λ e. n (sym e))))
 
 -- the row of a group is found where there is one
-row-found : (t : List Row) (x : ℕ) → 1 ≤ count x (groupsOf t) → rowOf t x ≡ answer (rowIn x t)
+row-found : (t : List Row) (x : ℕ) → 1 ≤ times x (groupsOf t) → rowOf t x ≡ answer (rowIn x t)
 unfolding rowOf
 row-found [] x h = absurd (omega arith)
 row-found (w ∷ t) x h =
     ap (λ b. cond b (answer w) (rowOf t x)) (eqb-flip (w .id) x)
-    ∙ (elim (eqb x (w .id)) as (λ b. 1 ≤ pick b 1 0 + count x (groupsOf t) → cond b (answer w) (rowOf t x) ≡ answer (cond b w (rowIn x t)))
+    ∙ (elim (eqb x (w .id)) as (λ b. 1 ≤ pick b 1 0 + times x (groupsOf t) → cond b (answer w) (rowOf t x) ≡ answer (cond b w (rowIn x t)))
     [ true ↦ λ h. refl | false ↦ λ h. row-found t x (omega arith) ]) h
 
-row-missing : (t : List Row) (x : ℕ) → count x (groupsOf t) ≡ 0 → rowOf t x ≡ refused 20
+row-missing : (t : List Row) (x : ℕ) → times x (groupsOf t) ≡ 0 → rowOf t x ≡ refused 20
 unfolding rowOf
 row-missing [] x h = refl
 row-missing (w ∷ t) x h =
     ap (λ b. cond b (answer w) (rowOf t x)) (eqb-flip (w .id) x)
-    ∙ (elim (eqb x (w .id)) as (λ b. pick b 1 0 + count x (groupsOf t) ≡ 0 → cond b (answer w) (rowOf t x) ≡ refused 20)
+    ∙ (elim (eqb x (w .id)) as (λ b. pick b 1 0 + times x (groupsOf t) ≡ 0 → cond b (answer w) (rowOf t x) ≡ refused 20)
     [ true ↦ λ h. absurd (omega arith) | false ↦ λ h. row-missing t x (omega arith) ]) h
 
 module _ (t : List Row) (g : Ledger) (h : Agree t g) (a b : ℕ) where
-  first-missing : count a (g .groups) ≡ 0 → orderIn t a b ≡ ledgerOrder g a b
+  first-missing : times a (g .groups) ≡ 0 → orderIn t a b ≡ ledgerOrder g a b
   unfolding orderIn ledgerOrder
   first-missing k =
-      let z : count a (g .groups) < 1 = omega arith in
-      rw (row-missing t a (h .table (oneAt a) ∙ k), lt-leb 1 (count a (g .groups)) z)
+      let z : times a (g .groups) < 1 = omega arith in
+      rw (row-missing t a (h .table (oneAt a) ∙ k), lt-leb 1 (times a (g .groups)) z)
 
-  second-missing : 1 ≤ count a (g .groups) → count b (g .groups) ≡ 0 → orderIn t a b ≡ ledgerOrder g a b
+  second-missing : 1 ≤ times a (g .groups) → times b (g .groups) ≡ 0 → orderIn t a b ≡ ledgerOrder g a b
   unfolding orderIn ledgerOrder
   second-missing k l =
-      let y : 1 ≤ count a (groupsOf t) = omega (arith, h .table (oneAt a)) in
-      let z : count b (g .groups) < 1 = omega arith in
-      rw (row-found t a y, row-missing t b (h .table (oneAt b) ∙ l), le-leb 1 (count a (g .groups)) k, lt-leb 1 (count b (g .groups)) z)
+      let y : 1 ≤ times a (groupsOf t) = omega (arith, h .table (oneAt a)) in
+      let z : times b (g .groups) < 1 = omega arith in
+      rw (row-found t a y, row-missing t b (h .table (oneAt b) ∙ l), le-leb 1 (times a (g .groups)) k, lt-leb 1 (times b (g .groups)) z)
 
-  both-there : 1 ≤ count a (g .groups) → 1 ≤ count b (g .groups) → orderIn t a b ≡ ledgerOrder g a b
+  both-there : 1 ≤ times a (g .groups) → 1 ≤ times b (g .groups) → orderIn t a b ≡ ledgerOrder g a b
   unfolding orderIn ledgerOrder
   both-there k l =
-      let y : 1 ≤ count a (groupsOf t) = omega (arith, h .table (oneAt a)) in
-      let z : 1 ≤ count b (groupsOf t) = omega (arith, h .table (oneAt b)) in
+      let y : 1 ≤ times a (groupsOf t) = omega (arith, h .table (oneAt a)) in
+      let z : 1 ≤ times b (groupsOf t) = omega (arith, h .table (oneAt b)) in
       rw (
         row-found t a y,
         row-found t b z,
-        le-leb 1 (count a (g .groups)) k,
-        le-leb 1 (count b (g .groups)) l,
+        le-leb 1 (times a (g .groups)) k,
+        le-leb 1 (times b (g .groups)) l,
         id-row a t y,
         id-row b t z,
         ← by-rows t a b,
@@ -76,9 +76,9 @@ module _ (t : List Row) (g : Ledger) (h : Agree t g) (a b : ℕ) where
       )
 
   pub order-alike : orderIn t a b ≡ ledgerOrder g a b
-  order-alike = go (count a (g .groups)) refl (count b (g .groups)) refl
+  order-alike = go (times a (g .groups)) refl (times b (g .groups)) refl
     where
-      go : (m : ℕ) → count a (g .groups) ≡ m → (n : ℕ) → count b (g .groups) ≡ n → orderIn t a b ≡ ledgerOrder g a b
+      go : (m : ℕ) → times a (g .groups) ≡ m → (n : ℕ) → times b (g .groups) ≡ n → orderIn t a b ≡ ledgerOrder g a b
       go zero k n l = first-missing k
       go (suc m) k zero l = second-missing (omega arith) l
       go (suc m) k (suc n) l = both-there (omega arith) (omega arith)

@@ -8,7 +8,7 @@ use Rattle.request.specs.Entries.{someEntry}
 use Rattle.request.specs.Reading.{positiveAt, entryAt, treesBy, treesAt, directionOf, requestOf}
 use Rattle.request.specs.Acceptance.{accepted}
 use Rattle.table.specs.Order.{same, first, second, incomparable, orderBy}
-use Rattle.ledger.specs.Ledger.{Ledger, freshLedger, acceptedBy, isOther, staysBelow, belowEntries, aboveEntries, itself, byTrees, orderAfter, replace, explodedLedger, ledgerRefined, ledgerOrder, freshL, freshR}
+use Rattle.ledger.specs.Ledger.{Ledger, freshLedger, acceptedBy, isOther, staysBelow, belowEntries, aboveEntries, itself, byTrees, orderAfter, replace, explodedLedger, ledgerRefined, ledgerOrder, afreshL, afreshR}
 use Rattle.ledger.specs.Calls.{Call, refine, order, refineSays, orderSays, ledgerReply, ledgerAfter, ledgerReplies, ledgerEnd}
 
 calls : List Call
@@ -46,10 +46,10 @@ ids = 1 ∷ 2 ∷ 5 ∷ 3 ∷ 4 ∷ 9 ∷ 10 ∷ 11 ∷ 8 ∷ 6 ∷ 7 ∷ []
 last : Ledger
 last = ledgerEnd (freshLedger 256 1 100) calls
 
-lefts : map (freshL last) ids ≡ 1 ∷ 6 ∷ 96 ∷ 21 ∷ 48 ∷ 78 ∷ 84 ∷ 90 ∷ 72 ∷ 36 ∷ 42 ∷ []
+lefts : map (afreshL last) ids ≡ 1 ∷ 6 ∷ 96 ∷ 21 ∷ 48 ∷ 78 ∷ 84 ∷ 90 ∷ 72 ∷ 36 ∷ 42 ∷ []
 unfolding ids last calls ledgerEnd ledgerAfter ledgerRefined acceptedBy explodedLedger freshLedger replace requestOf positiveAt entryAt treesBy treesAt directionOf accepted someEntry numberAt groupsAt lastByte
 lefts = refl
 
-rights : map (freshR last) ids ≡ 1 ∷ 81 ∷ 96 ∷ 66 ∷ 36 ∷ 6 ∷ 18 ∷ 12 ∷ 60 ∷ 30 ∷ 24 ∷ []
+rights : map (afreshR last) ids ≡ 1 ∷ 81 ∷ 96 ∷ 66 ∷ 36 ∷ 6 ∷ 18 ∷ 12 ∷ 60 ∷ 30 ∷ 24 ∷ []
 unfolding ids last calls ledgerEnd ledgerAfter ledgerRefined acceptedBy explodedLedger freshLedger replace requestOf positiveAt entryAt treesBy treesAt directionOf accepted someEntry numberAt groupsAt lastByte
 rights = refl

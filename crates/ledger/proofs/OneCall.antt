@@ -8,7 +8,7 @@ use native.Mathlib.Omega.{arith}
 use lib.ListN.{length}
 use borrow.Author.Tests.{eqb-false, ne-eqb, le-ltb}
 use Rattle.rules.specs.Answers.{Answer, answer, refused, then}
-use Rattle.request.specs.Entries.{count}
+use Rattle.request.specs.Entries.{times}
 use Rattle.request.specs.Request.{Request}
 use Rattle.request.specs.Reading.{requestOf}
 use Rattle.request.specs.Acceptance.{accepted}
@@ -117,7 +117,7 @@ says-alike s g m (order a b) = order-says s g m a b
 
 -- a group that the call does not explode is still there, with its numbers
 pub record Unmoved (x : ℕ) (s s′ : Table) (g′ : Ledger) : Type 0 where
-  pub there : 1 ≤ count x (g′ .groups)
+  pub there : 1 ≤ times x (g′ .groups)
   pub l-stays : lOf x (rowsIn s′) ≡ lOf x (rowsIn s)
   pub r-stays : rOf x (rowsIn s′) ≡ rOf x (rowsIn s)
 
@@ -134,13 +134,13 @@ meets-after s g m (refine bytes) = meets-refine s g m bytes
 meets-after s g m (order a b) = m
 
 unmoved-new : (s : Table) (g : Ledger) (m : Meets s g) (bytes : List ℕ) {q : Request} → acceptedBy g bytes ≡ answer q → (x : ℕ) → x ≢ q .exploded
-    → 1 ≤ count x (g .groups) → Unmoved x s (new m bytes q) (explodedLedger q g)
+    → 1 ≤ times x (g .groups) → Unmoved x s (new m bytes q) (explodedLedger q g)
 unmoved-new s g m bytes {q} e x n k =
     let u = unmoved g (m .agree) (refines-here m bytes e) x n k in
     let r = rows-put (refineRows q (rowsIn s)) (s .columns) in
     record { there = u .0; l-stays = rw r (u .1); r-stays = rw r (u .2) }
 
-stays-refine : (s : Table) (g : Ledger) → Meets s g → (bytes : List ℕ) (x : ℕ) → 1 ≤ count x (g .groups) → explodes x g (refine bytes) ≡ false
+stays-refine : (s : Table) (g : Ledger) → Meets s g → (bytes : List ℕ) (x : ℕ) → 1 ≤ times x (g .groups) → explodes x g (refine bytes) ≡ false
     → Unmoved x s (engineAfter s (refine bytes)) (ledgerAfter g (refine bytes))
 unfolding explodes
 stays-refine s g m bytes x h quiet = go (acceptedBy g bytes) refl
@@ -149,7 +149,7 @@ stays-refine s g m bytes x h quiet = go (acceptedBy g bytes) refl
     go (answer q) e = let a = after-accepted m bytes e in rw (a .0, a .1) (unmoved-new s g m bytes e x (eqb-false x (q .exploded) (rw e at quiet)) h)
     go (refused n) e = let a = after-refused m bytes e in rw (a .0, a .1) (record { there = h; l-stays = refl; r-stays = refl })
 
-pub stays : (s : Table) (g : Ledger) → Meets s g → (k : Call) (x : ℕ) → 1 ≤ count x (g .groups) → explodes x g k ≡ false
+pub stays : (s : Table) (g : Ledger) → Meets s g → (k : Call) (x : ℕ) → 1 ≤ times x (g .groups) → explodes x g k ≡ false
     → Unmoved x s (engineAfter s k) (ledgerAfter g k)
 unfolding engineAfter ledgerAfter
 stays s g m (refine bytes) x h quiet = stays-refine s g m bytes x h quiet

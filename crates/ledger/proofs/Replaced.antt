@@ -8,25 +8,25 @@ use native.Mathlib.Omega.{arith}
 use native.Mathlib.Decide.{ℕ-discrete}
 use lib.Dec.{eqb}
 use borrow.Author.Tests.{eqb-true, eq-eqb, ne-eqb}
-use Rattle.request.specs.Entries.{Entry, pick, sum, total, count, quotaOf, before}
+use Rattle.request.specs.Entries.{Entry, pick, sum, total, times, quotaOf, before}
 use Rattle.request.proofs.Sums.{sum-append, before-left, before-right, before-past, quota-none}
 use Rattle.refine.proofs.Without.{but, sum-none}
 use Rattle.ledger.specs.Ledger.{replace}
 
-pub sum-replace : (f : Entry → ℕ) (u : ℕ) (new s : List Entry) → count u s ≡ 1 → sum f (replace u new s) ≡ sum (but u f) s + sum f new
+pub sum-replace : (f : Entry → ℕ) (u : ℕ) (new s : List Entry) → times u s ≡ 1 → sum f (replace u new s) ≡ sum (but u f) s + sum f new
 unfolding replace
 sum-replace f u new [] h = absurd (omega arith)
 sum-replace f u new (e ∷ s) h =
-    (elim (eqb u (e .id)) as (λ b. pick b 1 0 + count u s ≡ 1 → sum f (cond b (new ++ s) (e ∷ replace u new s)) ≡ pick b 0 (f e) + sum (but u f) s + sum f new)
+    (elim (eqb u (e .id)) as (λ b. pick b 1 0 + times u s ≡ 1 → sum f (cond b (new ++ s) (e ∷ replace u new s)) ≡ pick b 0 (f e) + sum (but u f) s + sum f new)
     [ true ↦ λ h. omega (arith, sum-append f new s, sum-none f u s (omega arith)) | false ↦ λ h. omega (arith, sum-replace f u new s (omega arith)) ]) h
 
 -- what stands before another group stays
-pub before-other : (x u : ℕ) (new s : List Entry) → x ≢ u → count x new ≡ 0 → count u s ≡ 1 → total new ≡ quotaOf u s
+pub before-other : (x u : ℕ) (new s : List Entry) → x ≢ u → times x new ≡ 0 → times u s ≡ 1 → total new ≡ quotaOf u s
     → before x (replace u new s) ≡ before x s
 unfolding replace
 before-other x u new [] n z h t = refl
 before-other x u new (e ∷ s) n z h t =
-    (elim (eqb u (e .id)) as (λ b. eqb u (e .id) ≡ b → pick b 1 0 + count u s ≡ 1 → total new ≡ pick b (e .quota) 0 + quotaOf u s
+    (elim (eqb u (e .id)) as (λ b. eqb u (e .id) ≡ b → pick b 1 0 + times u s ≡ 1 → total new ≡ pick b (e .quota) 0 + quotaOf u s
     → before x (cond b (new ++ s) (e ∷ replace u new s)) ≡ before x (e ∷ s)) [
       | true ↦ λ p h t.
           omega (
@@ -39,12 +39,12 @@ before-other x u new (e ∷ s) n z h t =
     ]) refl h t
 
 -- the new groups begin where u did
-pub before-new : (x u : ℕ) (new s : List Entry) → (x ≢ u → count x s ≡ 0) → 1 ≤ count x new → count u s ≡ 1
+pub before-new : (x u : ℕ) (new s : List Entry) → (x ≢ u → times x s ≡ 0) → 1 ≤ times x new → times u s ≡ 1
     → before x (replace u new s) ≡ before u s + before x new
 unfolding replace
 before-new x u new [] n z h = absurd (omega arith)
 before-new x u new (e ∷ s) n z h =
-    (elim (eqb u (e .id)) as (λ b. eqb u (e .id) ≡ b → pick b 1 0 + count u s ≡ 1
+    (elim (eqb u (e .id)) as (λ b. eqb u (e .id) ≡ b → pick b 1 0 + times u s ≡ 1
     → before x (cond b (new ++ s) (e ∷ replace u new s)) ≡ pick b 0 (e .quota + before u s) + before x new) [
       | true ↦ λ p h. omega (arith, before-left x new s z)
       | false ↦ λ p h.

@@ -4,13 +4,13 @@ use mathlib.Core.List.{List, _++_}
 use mathlib.Core.Logic.{_≢_, _⊎_, inl, inr}
 use Prim.Native.Nat.{ℕ, zero, suc, _+_, _≤_}
 use native.Mathlib.Omega.{arith}
-use Rattle.request.specs.Entries.{Entry, quota, oneAt, quotaAt, total, count, quotaOf, before, Same}
+use Rattle.request.specs.Entries.{Entry, quota, oneAt, quotaAt, total, times, quotaOf, before, Same, without}
 use Rattle.request.specs.Request.{Request, entries, leftOf, rightOf}
 use Rattle.request.proofs.Sums.{sum-append}
 use Rattle.request.proofs.Trees.{same-left, same-right}
 use Rattle.table.specs.Columns.{Row}
-use Rattle.refine.specs.Refine.{groupsOf, lOf, rOf, without, refineRows}
-use Rattle.refine.specs.Theorems.{EntryIn, OtherIn, subgroupIn}
+use Rattle.refine.specs.Refine.{groupsOf, lOf, rOf, refineRows}
+use Rattle.refine.specs.Theorems.{IsEntry, OtherIn, subgroupIn}
 use Rattle.refine.proofs.Without.{but, sum-without, count-without}
 use Rattle.refine.proofs.After.{entry-or-other}
 use Rattle.refine.proofs.Cutting.{Refining, refines}
@@ -23,10 +23,10 @@ use Rattle.ledger.proofs.Replaced.{sum-replace, before-other, before-ne
 -- one of the two sequences: s of the ledger, new of the request
 record Side (u : ℕ) (gs es s new : List Entry) : Type 0 where
   holds : Same (replace u new s) (without u gs ++ es)
-  old : (x : ℕ) → x ≢ u → count x es ≡ 0 → before x (replace u new s) ≡ before x s
-  added : (x : ℕ) → 1 ≤ count x es → before x (replace u new s) ≡ before u s + before x new
+  old : (x : ℕ) → x ≢ u → times x es ≡ 0 → before x (replace u new s) ≡ before x s
+  added : (x : ℕ) → 1 ≤ times x es → before x (replace u new s) ≡ before u s + before x new
 
-side : (u : ℕ) (gs es : List Entry) → count u gs ≡ 1 → ((x : ℕ) → x ≢ u → 1 ≤ count x es → count x gs ≡ 0) → total es ≡ quotaOf u gs
+side : (u : ℕ) (gs es : List Entry) → times u gs ≡ 1 → ((x : ℕ) → x ≢ u → 1 ≤ times x es → times x gs ≡ 0) → total es ≡ quotaOf u gs
     → (s new : List Entry) → Same s gs → Same new es → Side u gs es s new
 side u gs es hu fresh whole s new in-s in-new = record {
   holds = λ f. omega (arith, sum-replace f u new s us, in-s (but u f), in-new f, sum-without f u gs, sum-append f (without u gs) es);
@@ -34,7 +34,7 @@ side u gs es hu fresh whole s new in-s in-new = record {
   added = λ x h. before-new x u new s (λ n. in-s (oneAt x) ∙ fresh x n h) (omega (arith, in-new (oneAt x))) us;
 }
   where
-    us : count u s ≡ 1
+    us : times u s ≡ 1
     us = in-s (oneAt u) ∙ hu
 
 module _ {room : ℕ} {q : Request} {t : List Row} (g : Ledger) (a : Agree t g) (h : Refining room q t) where
@@ -44,10 +44,10 @@ module _ {room : ℕ} {q : Request} {t : List Row} (g : Ledger) (a : Agree t g) 
   abbrev after : List Entry
   after = without u (g .groups) ++ entries q
 
-  known : count u (g .groups) ≡ 1
+  known : times u (g .groups) ≡ 1
   known = omega (arith, refines h .known, a .table (oneAt u))
 
-  new : (x : ℕ) → x ≢ u → EntryIn q x → count x (g .groups) ≡ 0
+  new : (x : ℕ) → x ≢ u → IsEntry q x → times x (g .groups) ≡ 0
   new x n k = omega (arith, h .ok .new x n k, a .table (oneAt x))
 
   whole : total (entries q) ≡ quotaOf u (g .groups)
@@ -75,24 +75,24 @@ module _ {room : ℕ} {q : Request} {t : List Row} (g : Ledger) (a : Agree t g) 
       )
 
   -- a group after the request is an entry, or an old group other than u
-  split : (x : ℕ) → 1 ≤ count x after → EntryIn q x ⊎ OtherIn q t x
+  split : (x : ℕ) → 1 ≤ times x after → IsEntry q x ⊎ OtherIn q t x
   split x k = entry-or-other (refines h) x (omega (arith, in-table (oneAt x)))
 
-  was : (x : ℕ) → OtherIn q t x → 1 ≤ count x (g .groups)
+  was : (x : ℕ) → OtherIn q t x → 1 ≤ times x (g .groups)
   was x o = omega (arith, a .table (oneAt x), o .1)
 
   other : (x : ℕ) → OtherIn q t x → Other q g x
-  other x o = record { differs = o .0; known = was x o; no-entry = go (count x (entries q)) refl }
+  other x o = record { differs = o .0; known = was x o; no-entry = go (times x (entries q)) refl }
     where
-      go : (n : ℕ) → count x (entries q) ≡ n → count x (entries q) ≡ 0
+      go : (n : ℕ) → times x (entries q) ≡ n → times x (entries q) ≡ 0
       go zero e = e
       go (suc n) e = absurd (omega (arith, new x (o .0) (omega arith), was x o))
 
-  numbers-after : (x : ℕ) → 1 ≤ count x after
+  numbers-after : (x : ℕ) → 1 ≤ times x after
       → (lOf x (refineRows q t) ≡ 1 + before x (replace u (leftOf q) (g .left))) × (rOf x (refineRows q t) ≡ 1 + before x (replace u (rightOf q) (g .right)))
   numbers-after x k = go (split x k)
     where
-      go : EntryIn q x ⊎ OtherIn q t x
+      go : IsEntry q x ⊎ OtherIn q t x
           → (lOf x (refineRows q t) ≡ 1 + before x (replace u (leftOf q) (g .left))) × (rOf x (refineRows q t) ≡ 1 + before x (replace u (rightOf q) (g .right)))
       go (inl e) =
           let n = a .numbers u (omega (arith, known)) in
@@ -104,10 +104,10 @@ module _ {room : ℕ} {q : Request} {t : List Row} (g : Ledger) (a : Agree t g) 
           let z = other x o .no-entry in
           (omega (arith, m .0, n .0, left .old x (o .0) z), omega (arith, m .1, n .1, right .old x (o .0) z))
 
-  ordered-after : (x y : ℕ) → 1 ≤ count x after → 1 ≤ count y after → orderAfter q g x y ≡ subgroupIn (refineRows q t) x y
+  ordered-after : (x y : ℕ) → 1 ≤ times x after → 1 ≤ times y after → orderAfter q g x y ≡ subgroupIn (refineRows q t) x y
   ordered-after x y kx ky = go (split x kx) (split y ky)
     where
-      go : EntryIn q x ⊎ OtherIn q t x → EntryIn q y ⊎ OtherIn q t y → orderAfter q g x y ≡ subgroupIn (refineRows q t) x y
+      go : IsEntry q x ⊎ OtherIn q t x → IsEntry q y ⊎ OtherIn q t y → orderAfter q g x y ≡ subgroupIn (refineRows q t) x y
       go (inl e) (inl f) = entries-after asked x y e f ∙ sym (promised h .entries-order x y e f)
       go (inl e) (inr o) =
           entry-other asked x y e (other y o) ∙ a .ordered u y (omega (arith, known)) (was y o) ∙ sym (promised h .entry-below y x o e)
@@ -117,10 +117,10 @@ module _ {room : ℕ} {q : Request} {t : List Row} (g : Ledger) (a : Agree t g) 
           others-after asked x y (other x o) (other y p) ∙ a .ordered x y (was x o) (was y p) ∙ sym (promised h .others-order x y o p)
 
   -- an id that is no group after the request was none before it, and is no entry
-  neither : (x : ℕ) → count x after ≡ 0 → (count x (g .groups) ≡ 0) × (count x (entries q) ≡ 0)
+  neither : (x : ℕ) → times x after ≡ 0 → (times x (g .groups) ≡ 0) × (times x (entries q) ≡ 0)
   neither x k =
       let s = sum-append (oneAt x) (without u (g .groups)) (entries q) in
-      let n : x ≢ u = λ e. omega (arith, h .ok .once, ap (λ y. count y (entries q)) e) in
+      let n : x ≢ u = λ e. omega (arith, h .ok .once, ap (λ y. times y (entries q)) e) in
       (omega (arith, count-without x u (g .groups) n), omega arith)
 
   pub agree-after : Agree (refineRows q t) (explodedLedger q g)
@@ -137,8 +137,8 @@ module _ {room : ℕ} {q : Request} {t : List Row} (g : Ledger) (a : Agree t g) 
   }
 
   -- a group that is not exploded stays, with its numbers
-  pub unmoved : (x : ℕ) → x ≢ u → 1 ≤ count x (g .groups)
-      → (1 ≤ count x (explodedLedger q g .groups)) × (lOf x (refineRows q t) ≡ lOf x t) × (rOf x (refineRows q t) ≡ rOf x t)
+  pub unmoved : (x : ℕ) → x ≢ u → 1 ≤ times x (g .groups)
+      → (1 ≤ times x (explodedLedger q g .groups)) × (lOf x (refineRows q t) ≡ lOf x t) × (rOf x (refineRows q t) ≡ rOf x t)
   unfolding explodedLedger
   unmoved x n k =
       let o : OtherIn q t x = (n, omega (arith, a .table (oneAt x))) in

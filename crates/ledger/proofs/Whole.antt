@@ -7,7 +7,7 @@ use native.Mathlib.Omega.{arith}
 use borrow.Author.Tests.{leb-true}
 use Rattle.rules.specs.Limits.{greatest}
 use Rattle.rules.proofs.Bools.{or-none}
-use Rattle.request.specs.Entries.{oneAt, count}
+use Rattle.request.specs.Entries.{oneAt, times}
 use Rattle.request.proofs.Sums.{same-length}
 use Rattle.table.specs.Columns.{Columns}
 use Rattle.table.specs.Order.{subgroup}
@@ -19,7 +19,7 @@ use Rattle.refine.proofs.Soundness.{sound-ids}
 use Rattle.grant.specs.Grant.{Grant}
 use Rattle.ledger.specs.Ledger.{Ledger}
 use Rattle.ledger.specs.Calls.{Call, ledgerAfter, ledgerReplies, ledgerEnd, explodes, explodedIn, Table, rowsIn, engineAfter, engineReplies, engineEnd, engineStart}
-use Rattle.ledger.specs.Decisions.{Held}
+use Rattle.ledger.specs.Decisions.{GroupGrant}
 use Rattle.ledger.specs.Demand.{FreshAccepted, ledgerStart, ledger, engine, tableRows, Noted, StoredAs, Demand}
 use Rattle.ledger.proofs.Agree.{Meets}
 use Rattle.ledger.proofs.OneCall.{orders-alike, says-alike, meets-after, Unmoved, stays}
@@ -37,7 +37,7 @@ unfolding engineReplies ledgerReplies
 replies-alike s g m [] = refl
 replies-alike s g m (k ∷ ks) = ap₂ (λ a rest. a ∷ rest) (says-alike s g m k) (replies-alike (engineAfter s k) (ledgerAfter g k) (meets-after s g m k) ks)
 
-stays-end : (s : Table) (g : Ledger) → Meets s g → (ks : List Call) (x : ℕ) → 1 ≤ count x (g .groups) → explodedIn x g ks ≡ false
+stays-end : (s : Table) (g : Ledger) → Meets s g → (ks : List Call) (x : ℕ) → 1 ≤ times x (g .groups) → explodedIn x g ks ≡ false
     → Unmoved x s (engineEnd s ks) (ledgerEnd g ks)
 unfolding engineEnd ledgerEnd explodedIn
 stays-end s g m [] x h quiet = record { there = h; l-stays = refl; r-stays = refl }
@@ -59,7 +59,7 @@ ledger-append g (k ∷ js) ks = ledger-append (ledgerAfter g k) js ks
 
 -- numbers that a group has at the end
 record Last (s : Table) (g : Ledger) (x l r : ℕ) : Type 0 where
-  there : 1 ≤ count x (g .groups)
+  there : 1 ≤ times x (g .groups)
   l-last : lOf x (rowsIn s) ≡ l
   r-last : rOf x (rowsIn s) ≡ r
 
@@ -70,7 +70,7 @@ module _ (c : Columns) (id quota : ℕ) (f : FreshAccepted c id quota) where
   -- numbers that were noted are those of the last table
   last : {ks : List Call} {x l r : ℕ} → Noted c id quota ks x l r → Last (engine c id quota ks) (ledger c id quota ks) x l r
   last {ks} {x} n =
-      let h = leb-true 1 (count x (ledger c id quota (n .earlier) .groups)) (n .there) in
+      let h = leb-true 1 (times x (ledger c id quota (n .earlier) .groups)) (n .there) in
       let u = stays-end (engine c id quota (n .earlier)) (ledger c id quota (n .earlier)) (meets (n .earlier)) (n .later) x h (n .quiet) in
       rw (n .joined, engine-append (engineStart c id quota) (n .earlier) (n .later), ledger-append (ledgerStart c id quota) (n .earlier) (n .later))
       (record { there = u .there; l-last = u .l-stays ∙ sym (n .l-is); r-last = u .r-stays ∙ sym (n .r-is) })
@@ -94,7 +94,7 @@ module _ (c : Columns) (id quota : ℕ) (f : FreshAccepted c id quota) where
       let er = sym (r-row x t) ∙ m .r-last in
       omega (arith, row .l-some, row .r-some, row .q-some, row .l-end, row .r-end, el, er)
 
-  stored-alike : {ks : List Call} {x l r : ℕ} → Noted c id quota ks x l r → (h : Held) (g : Grant) → StoredAs c id quota ks h g
+  stored-alike : {ks : List Call} {x l r : ℕ} → Noted c id quota ks x l r → (h : GroupGrant) (g : Grant) → StoredAs c id quota ks h g
       → Alike (ledger c id quota ks .order) x l r h g
   unfolding subgroup
   stored-alike n h g s =
@@ -119,7 +119,7 @@ module _ (c : Columns) (id quota : ℕ) (f : FreshAccepted c id quota) where
     groups = meets ks .agree .table;
     count = sym (rows-length (engine c id quota ks .columns) 0 (engine c id quota ks .count))
         ∙ sym (groups-length (tableRows c id quota ks)) ∙ same-length (groupsOf (tableRows c id quota ks)) (ledger c id quota ks .groups) (meets ks .agree .table);
-    numbers = λ x h. meets ks .agree .numbers x (leb-true 1 (count x (ledger c id quota ks .groups)) h);
+    numbers = λ x h. meets ks .agree .numbers x (leb-true 1 (times x (ledger c id quota ks .groups)) h);
     orders = orders-alike (meets ks);
     kept = λ x l r n. (last n .l-last, last n .r-last);
     decisions = λ x l r n hs gs all feature day.

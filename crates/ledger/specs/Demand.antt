@@ -16,8 +16,8 @@ use Rattle.table.specs.Order as table
 use Rattle.refine.specs.Refine.{groupsOf, lOf, rOf}
 use Rattle.grant.specs.Grant.{Grant, grant, grantsBytes}
 use Rattle.grant.specs.Decision.{decided}
-use Rattle.ledger.specs.Ledger.{Ledger, freshLedger, ledgerOrder, freshL, freshR}
-use Rattle.ledger.specs.Decisions.{Held, ledgerDecided, Each}
+use Rattle.ledger.specs.Ledger.{Ledger, freshLedger, ledgerOrder, afreshL, afreshR}
+use Rattle.ledger.specs.Decisions.{GroupGrant, ledgerDecided, Each}
 use Rattle.ledger.specs.Calls.{Call, ledgerReplies, ledgerEnd, explodedIn, Table, rowsIn, engineReplies, engineEnd, engineStart}
 
 -- fresh was accepted: it answered the count 1. A quota is a 32-bit number
@@ -51,7 +51,7 @@ module _ (c : Columns) (id quota : ℕ) where
     pub quiet : explodedIn x (ledger earlier) later ≡ false
 
   -- g is the held grant h as it is stored, with numbers of its group that were noted at a point of its own. Feature and days are any 32-bit numbers
-  pub record StoredAs (ks : List Call) (h : Held) (g : Grant) : Type 0 where
+  pub record StoredAs (ks : List Call) (h : GroupGrant) (g : Grant) : Type 0 where
     pub stored : g ≡ grant (h .feature) (g .l) (g .r) (h .first) (h .last)
     pub noted : Noted ks (h .group) (g .l) (g .r)
     pub feature-32 : h .feature ≤ greatest
@@ -65,12 +65,12 @@ module _ (c : Columns) (id quota : ℕ) where
     pub groups : Same (groupsOf (tableRows ks)) (ledger ks .groups)
     pub count : engine ks .count ≡ length (ledger ks .groups)
     -- each group has the two numbers worked out afresh from the ledger's two sequences
-    pub numbers : (x : ℕ) → has x (ledger ks .groups) ≡ true → (lOf x (tableRows ks) ≡ freshL (ledger ks) x) × (rOf x (tableRows ks) ≡ freshR (ledger ks) x)
+    pub numbers : (x : ℕ) → has x (ledger ks .groups) ≡ true → (lOf x (tableRows ks) ≡ afreshL (ledger ks) x) × (rOf x (tableRows ks) ≡ afreshR (ledger ks) x)
     -- order answers for any two groups are those of the ledger's order
     pub orders : (a b : ℕ) → table.order (engine ks .columns) (engine ks .count) a b ≡ ledgerOrder (ledger ks) a b
     -- a group that no accepted request has exploded since has the numbers it had then: since it was made, or since any later point
     pub kept : (x l r : ℕ) → Noted ks x l r → (lOf x (tableRows ks) ≡ l) × (rOf x (tableRows ks) ≡ r)
     -- numbers noted for a pass and for grants, where no accepted request explodes those groups later: for every feature and day
     -- decide's whole answer, refusals included, is the decision that the ledger's last order gives
-    pub decisions : (x l r : ℕ) → Noted ks x l r → (hs : List Held) (gs : List Grant) → Each (StoredAs ks) hs gs → (feature day : ℕ)
+    pub decisions : (x l r : ℕ) → Noted ks x l r → (hs : List GroupGrant) (gs : List Grant) → Each (StoredAs ks) hs gs → (feature day : ℕ)
         → decided feature l r day (grantsBytes gs) ≡ ledgerDecided (ledger ks) feature x day hs

@@ -4,13 +4,12 @@ use mathlib.Core.Bool.{Bool, cond, not, _&&_, _||_}
 use mathlib.Core.List.{List, [], _∷_, _++_}
 use lib.Dec.{eqb}
 use Rattle.rules.specs.Answers.{Answer, answer, refused, then}
-use Rattle.request.specs.Entries.{Entry, entry, has, before}
+use Rattle.request.specs.Entries.{Entry, entry, has, before, without}
 use Rattle.request.specs.Forest.{treeOrder}
 use Rattle.request.specs.Request.{Request, entries, leftOf, rightOf}
 use Rattle.request.specs.Reading.{requestOf}
 use Rattle.request.specs.Acceptance.{accepted}
 use Rattle.table.specs.Order.{Order, orderBy}
-use Rattle.refine.specs.Refine.{without}
 
 -- State: column length, ids with quotas, an order on the ids, sequences L and R
 pub record Ledger : Type 0 where
@@ -88,8 +87,8 @@ ledgerOrder g a b =
     cond (not (has a (g .groups)) || not (has b (g .groups))) (refused 20) (answer (orderBy (eqb a b) (g .order a b) (g .order b a)))
 
 -- Afresh, l = 1 + quotas before the group in L, r the same in R
-abbrev pub freshL : Ledger → ℕ → ℕ
-freshL g x = 1 + before x (g .left)
+abbrev pub afreshL : Ledger → ℕ → ℕ
+afreshL g x = 1 + before x (g .left)
 
-abbrev pub freshR : Ledger → ℕ → ℕ
-freshR g x = 1 + before x (g .right)
+abbrev pub afreshR : Ledger → ℕ → ℕ
+afreshR g x = 1 + before x (g .right)

@@ -10,20 +10,20 @@ use lib.Dec.{eqb}
 use lib.ListN.{length, length-map}
 use borrow.Author.Tests.{eqb-true, ne-eqb}
 use Rattle.rules.proofs.Cases.{by-eq}
-use Rattle.request.specs.Entries.{Entry, entry, pick, oneAt, sum, count, quotaOf, Same, Distinct}
+use Rattle.request.specs.Entries.{Entry, entry, pick, oneAt, sum, times, quotaOf, Same, Distinct, without}
 use Rattle.request.specs.Request.{Request, entries}
 use Rattle.request.proofs.Sums.{sum-append, eqb-same, quota-none, length-sum}
 use Rattle.table.specs.Columns.{Row}
-use Rattle.refine.specs.Refine.{groupsOf, lOf, rOf, rowFor, without, keptRows, newRows, refineRows}
+use Rattle.refine.specs.Refine.{groupsOf, lOf, rOf, rowFor, keptRows, newRows, refineRows}
 use Rattle.refine.specs.Theorems.{OtherIn}
 use Rattle.refine.proofs.Lookup.{rowIn, row-left, row-right, l-row, r-row}
 use Rattle.refine.proofs.Without.{but, sum-without, sum-split, count-but, count-without, quota-without}
 
 -- the rows of entries
-entry-rows : (q : Request) (l r : ℕ) (s : List Entry) (x : ℕ) → count x s ≡ 1 → rowIn x (map (rowFor q l r) s) ≡ rowFor q l r (entry x (quotaOf x s))
+entry-rows : (q : Request) (l r : ℕ) (s : List Entry) (x : ℕ) → times x s ≡ 1 → rowIn x (map (rowFor q l r) s) ≡ rowFor q l r (entry x (quotaOf x s))
 entry-rows q l r [] x h = absurd (omega arith)
 entry-rows q l r (e ∷ s) x h =
-    (elim (eqb x (e .id)) as (λ b. eqb x (e .id) ≡ b → pick b 1 0 + count x s ≡ 1
+    (elim (eqb x (e .id)) as (λ b. eqb x (e .id) ≡ b → pick b 1 0 + times x s ≡ 1
     → cond b (rowFor q l r e) (rowIn x (map (rowFor q l r) s)) ≡ rowFor q l r (entry x (pick b (e .quota) 0 + quotaOf x s))) [
       | true ↦ λ p h.
           let z : quotaOf x s ≡ 0 = quota-none x s (omega arith) in
@@ -51,11 +51,11 @@ module _ (q : Request) where
   own w = rowFor q (w .l) (w .r) (entry u (quotaOf u (entries q)))
 
   -- the exploded id's row, and the rows of others
-  kept-own : (t : List Row) → 1 ≤ count u (groupsOf t) → rowIn u (keptRows q t) ≡ own (rowIn u t)
+  kept-own : (t : List Row) → 1 ≤ times u (groupsOf t) → rowIn u (keptRows q t) ≡ own (rowIn u t)
   kept-own [] h = absurd (omega arith)
   kept-own (w ∷ t) h = go (eqb u (w .id)) refl h (kept-own t)
     where
-      go : (b : Bool) → eqb u (w .id) ≡ b → 1 ≤ pick b 1 0 + count u (groupsOf t) → (1 ≤ count u (groupsOf t) → rowIn u (keptRows q t) ≡ own (rowIn u t))
+      go : (b : Bool) → eqb u (w .id) ≡ b → 1 ≤ pick b 1 0 + times u (groupsOf t) → (1 ≤ times u (groupsOf t) → rowIn u (keptRows q t) ≡ own (rowIn u t))
           → cond (eqb u (cond b (own w) w .id)) (cond b (own w) w) (rowIn u (keptRows q t)) ≡ own (cond b w (rowIn u t))
       go true e h ih = rw (eqb-same u)
       go false e h ih = rw e (ih (omega arith))
@@ -69,23 +69,23 @@ module _ (q : Request) where
       go true e ih = rw (ne-eqb x u n, ne-eqb x (w .id) (λ k. n (k ∙ sym (eqb-true u (w .id) e)))) ih
       go false e ih = ap (λ v. cond (eqb x (w .id)) w v) ih
 
-  kept-none : (f : Entry → ℕ) (t : List Row) → count u (groupsOf t) ≡ 0 → sum f (groupsOf (keptRows q t)) ≡ sum (but u f) (groupsOf t)
+  kept-none : (f : Entry → ℕ) (t : List Row) → times u (groupsOf t) ≡ 0 → sum f (groupsOf (keptRows q t)) ≡ sum (but u f) (groupsOf t)
   kept-none f [] h = refl
   kept-none f (w ∷ t) h = go (eqb u (w .id)) h (kept-none f t)
     where
-      go : (b : Bool) → pick b 1 0 + count u (groupsOf t) ≡ 0 → (count u (groupsOf t) ≡ 0 → sum f (groupsOf (keptRows q t)) ≡ sum (but u f) (groupsOf t))
+      go : (b : Bool) → pick b 1 0 + times u (groupsOf t) ≡ 0 → (times u (groupsOf t) ≡ 0 → sum f (groupsOf (keptRows q t)) ≡ sum (but u f) (groupsOf t))
           → sum f (groupsOf (cond b (own w) w ∷ keptRows q t)) ≡ pick b 0 (f (entry (w .id) (w .q))) + sum (but u f) (groupsOf t)
       go true h ih = absurd (omega arith)
       go false h ih = omega (arith, ih (omega arith))
 
-  kept-groups : (f : Entry → ℕ) (t : List Row) → count u (groupsOf t) ≡ 1
+  kept-groups : (f : Entry → ℕ) (t : List Row) → times u (groupsOf t) ≡ 1
       → sum f (groupsOf (keptRows q t)) ≡ f (entry u (quotaOf u (entries q))) + sum (but u f) (groupsOf t)
   kept-groups f [] h = absurd (omega arith)
   kept-groups f (w ∷ t) h = go (eqb u (w .id)) h (kept-groups f t) (kept-none f t)
     where
-      go : (b : Bool) → pick b 1 0 + count u (groupsOf t) ≡ 1
-          → (count u (groupsOf t) ≡ 1 → sum f (groupsOf (keptRows q t)) ≡ f (entry u (quotaOf u (entries q))) + sum (but u f) (groupsOf t))
-          → (count u (groupsOf t) ≡ 0 → sum f (groupsOf (keptRows q t)) ≡ sum (but u f) (groupsOf t))
+      go : (b : Bool) → pick b 1 0 + times u (groupsOf t) ≡ 1
+          → (times u (groupsOf t) ≡ 1 → sum f (groupsOf (keptRows q t)) ≡ f (entry u (quotaOf u (entries q))) + sum (but u f) (groupsOf t))
+          → (times u (groupsOf t) ≡ 0 → sum f (groupsOf (keptRows q t)) ≡ sum (but u f) (groupsOf t))
           → sum f (groupsOf (cond b (own w) w ∷ keptRows q t)) ≡ f (entry u (quotaOf u (entries q))) + (pick b 0 (f (entry (w .id) (w .q))) + sum (but u f) (groupsOf t))
       go true h ih none = omega (arith, none (omega arith))
       go false h ih none = omega (arith, ih (omega arith))
@@ -93,10 +93,10 @@ module _ (q : Request) where
 -- rows without an id twice, and a request whose ids are new but for the exploded one
 pub record Refines (q : Request) (t : List Row) : Type 0 where
   pub distinct : Distinct (groupsOf t)
-  pub known : count (q .exploded) (groupsOf t) ≡ 1
-  pub once : count (q .exploded) (entries q) ≡ 1
+  pub known : times (q .exploded) (groupsOf t) ≡ 1
+  pub once : times (q .exploded) (entries q) ≡ 1
   pub single : Distinct (entries q)
-  pub new : (x : ℕ) → x ≢ q .exploded → 1 ≤ count x (entries q) → count x (groupsOf t) ≡ 0
+  pub new : (x : ℕ) → x ≢ q .exploded → 1 ≤ times x (entries q) → times x (groupsOf t) ≡ 0
 
 module _ {q : Request} {t : List Row} (h : Refines q t) where
   -- the sums over the groups after
@@ -128,21 +128,21 @@ module _ {q : Request} {t : List Row} (h : Refines q t) where
     groups-length (refineRows q t),
   )
 
-  pub count-other : (x : ℕ) → x ≢ q .exploded → count x (groupsOf (refineRows q t)) ≡ count x (groupsOf t) + count x (entries q)
+  pub count-other : (x : ℕ) → x ≢ q .exploded → times x (groupsOf (refineRows q t)) ≡ times x (groupsOf t) + times x (entries q)
   count-other x n = omega (arith, sums-after (oneAt x), count-but x (q .exploded) (groupsOf t) n)
 
-  pub count-exploded : count (q .exploded) (groupsOf (refineRows q t)) ≡ 1
+  pub count-exploded : times (q .exploded) (groupsOf (refineRows q t)) ≡ 1
   count-exploded =
       let k : pick (eqb (q .exploded) (q .exploded)) 1 0 ≡ 1 = rw (eqb-same (q .exploded)) in
       omega (arith, sums-after (oneAt (q .exploded)), sum-split (oneAt (q .exploded)) (q .exploded) (groupsOf t) (h .known), h .known, h .once)
 
   -- a group that is not exploded keeps its row
-  kept-count : (x : ℕ) → x ≢ q .exploded → count x (groupsOf (keptRows q t)) ≡ count x (groupsOf t)
+  kept-count : (x : ℕ) → x ≢ q .exploded → times x (groupsOf (keptRows q t)) ≡ times x (groupsOf t)
   kept-count x n =
       let k : pick (eqb x (q .exploded)) 1 0 ≡ 0 = rw (ne-eqb x (q .exploded) n) in
       omega (arith, kept-groups q (oneAt x) t (h .known), count-but x (q .exploded) (groupsOf t) n)
 
-  pub kept-row : (x : ℕ) → x ≢ q .exploded → 1 ≤ count x (groupsOf t) → rowIn x (refineRows q t) ≡ rowIn x t
+  pub kept-row : (x : ℕ) → x ≢ q .exploded → 1 ≤ times x (groupsOf t) → rowIn x (refineRows q t) ≡ rowIn x t
   unfolding refineRows
   kept-row x n k = row-left x (keptRows q t) (newRows q t) (omega (arith, kept-count x n)) ∙ kept-other q t x n
 
@@ -155,7 +155,7 @@ module _ {q : Request} {t : List Row} (h : Refines q t) where
       row-left (q .exploded) (keptRows q t) (newRows q t) (omega (arith, kept-groups q (oneAt (q .exploded)) t (h .known)))
       ∙ kept-own q t (omega (arith, h .known))
 
-  new-row : (x : ℕ) → x ≢ q .exploded → 1 ≤ count x (entries q)
+  new-row : (x : ℕ) → x ≢ q .exploded → 1 ≤ times x (entries q)
       → rowIn x (refineRows q t) ≡ rowFor q (rowIn (q .exploded) t .l) (rowIn (q .exploded) t .r) (entry x (quotaOf x (entries q)))
   unfolding refineRows
   new-row x n k =
@@ -164,25 +164,25 @@ module _ {q : Request} {t : List Row} (h : Refines q t) where
       (omega (arith, count-without x (q .exploded) (entries q) n, h .single x))
       ∙ rw (quota-without x (q .exploded) (entries q) n, l-row (q .exploded) t, r-row (q .exploded) t)
 
-  pub entry-row : (x : ℕ) → 1 ≤ count x (entries q)
+  pub entry-row : (x : ℕ) → 1 ≤ times x (entries q)
       → rowIn x (refineRows q t) ≡ rowFor q (rowIn (q .exploded) t .l) (rowIn (q .exploded) t .r) (entry x (quotaOf x (entries q)))
   entry-row x k = by-eq x (q .exploded) (λ e. rw e exploded-row) (λ n. new-row x n k)
 
   -- no id comes twice
   pub distinct-after : Distinct (groupsOf (refineRows q t))
-  distinct-after x = by-eq x (q .exploded) (λ e. rw e (omega (arith, count-exploded))) (λ n. go n (count x (entries q)) refl)
+  distinct-after x = by-eq x (q .exploded) (λ e. rw e (omega (arith, count-exploded))) (λ n. go n (times x (entries q)) refl)
     where
-      go : x ≢ q .exploded → (n : ℕ) → count x (entries q) ≡ n → count x (groupsOf (refineRows q t)) ≤ 1
+      go : x ≢ q .exploded → (n : ℕ) → times x (entries q) ≡ n → times x (groupsOf (refineRows q t)) ≤ 1
       go n zero k = omega (arith, count-other x n, h .distinct x)
       go n (suc m) k = omega (arith, count-other x n, h .new x n (omega arith), h .single x)
 
   -- a group after is an entry, or a group before that is not exploded
-  pub entry-or-other : (x : ℕ) → 1 ≤ count x (groupsOf (refineRows q t)) → (1 ≤ count x (entries q)) ⊎ OtherIn q t x
-  entry-or-other x k = by-eq x (q .exploded) (λ e. inl (rw e (omega (arith, h .once)))) (λ n. go n (count x (entries q)) refl)
+  pub entry-or-other : (x : ℕ) → 1 ≤ times x (groupsOf (refineRows q t)) → (1 ≤ times x (entries q)) ⊎ OtherIn q t x
+  entry-or-other x k = by-eq x (q .exploded) (λ e. inl (rw e (omega (arith, h .once)))) (λ n. go n (times x (entries q)) refl)
     where
-      go : x ≢ q .exploded → (n : ℕ) → count x (entries q) ≡ n → (1 ≤ count x (entries q)) ⊎ OtherIn q t x
+      go : x ≢ q .exploded → (n : ℕ) → times x (entries q) ≡ n → (1 ≤ times x (entries q)) ⊎ OtherIn q t x
       go n zero z = inr (n, omega (arith, count-other x n))
       go n (suc m) z = inl (omega arith)
 
-  pub entry-after : (x : ℕ) → 1 ≤ count x (entries q) → 1 ≤ count x (groupsOf (refineRows q t))
+  pub entry-after : (x : ℕ) → 1 ≤ times x (entries q) → 1 ≤ times x (groupsOf (refineRows q t))
   entry-after x k = omega (arith, groups-after (oneAt x), sum-append (oneAt x) (without (q .exploded) (groupsOf t)) (entries q))

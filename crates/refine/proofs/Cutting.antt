@@ -4,7 +4,7 @@ use mathlib.Core.List.{List}
 use mathlib.Core.Logic.{_≢_, _⊎_, inl, inr}
 use Prim.Native.Nat.{ℕ, _+_, _≤_}
 use native.Mathlib.Omega.{arith}
-use Rattle.request.specs.Entries.{Entry, oneAt, quotaAt, quota, total, count, quotaOf, before, Same}
+use Rattle.request.specs.Entries.{Entry, oneAt, quotaAt, quota, total, times, quotaOf, before, Same}
 use Rattle.request.specs.Request.{Request, entries, leftOf, rightOf}
 use Rattle.request.proofs.Sums.{Clear, before-within, positive-quota, apart}
 use Rattle.request.proofs.Trees.{same-left, same-right}
@@ -63,10 +63,10 @@ inside-sound v w h k i s = record {
 
 -- the range of an entry in a sequence of the entries
 module _ (es s : List Entry) (same : Same s es) where
-  range-within : (x : ℕ) → 1 ≤ count x es → before x s + quotaOf x es ≤ total es
+  range-within : (x : ℕ) → 1 ≤ times x es → before x s + quotaOf x es ≤ total es
   range-within x k = omega (arith, before-within x s (omega (arith, same (oneAt x))), same (quotaAt x), same quota)
 
-  ranges-apart : (x y base : ℕ) → x ≢ y → count x es ≡ 1 → count y es ≡ 1 → Clear (base + before x s) (quotaOf x es) (base + before y s) (quotaOf y es)
+  ranges-apart : (x y base : ℕ) → x ≢ y → times x es ≡ 1 → times y es ≡ 1 → Clear (base + before x s) (quotaOf x es) (base + before y s) (quotaOf y es)
   ranges-apart x y base n hx hy = rw (← (same (quotaAt x)), ← (same (quotaAt y))) (go (apart x y s n (same (oneAt x) ∙ hx) (same (oneAt y) ∙ hy)))
     where
       go : Clear (before x s) (quotaOf x s) (before y s) (quotaOf y s) → Clear (base + before x s) (quotaOf x s) (base + before y s) (quotaOf y s)
@@ -83,24 +83,24 @@ module _ {room : ℕ} {q : Request} {t : List Row} (h : Refining room q t) where
   exploded-quota : total (entries q) ≡ rowIn (q .exploded) t .q
   exploded-quota = h .ok .whole ∙ quota-row (q .exploded) t (h .sound .distinct (q .exploded))
 
-  pub entry-once : (x : ℕ) → 1 ≤ count x (entries q) → count x (entries q) ≡ 1
+  pub entry-once : (x : ℕ) → 1 ≤ times x (entries q) → times x (entries q) ≡ 1
   entry-once x k = omega (arith, h .ok .single x)
 
-  entry-quota : (x : ℕ) → 1 ≤ count x (entries q) → 1 ≤ quotaOf x (entries q)
+  entry-quota : (x : ℕ) → 1 ≤ times x (entries q) → 1 ≤ quotaOf x (entries q)
   entry-quota x k = omega (arith, positive-quota x (entries q) (h .read .positive))
 
-  entry-id : (x : ℕ) → 1 ≤ count x (entries q) → 1 ≤ x
-  entry-id x k = let n : x ≢ 0 = λ e. omega (arith, h .read .named, ap (λ y. count y (entries q)) e) in omega arith
+  entry-id : (x : ℕ) → 1 ≤ times x (entries q) → 1 ≤ x
+  entry-id x k = let n : x ≢ 0 = λ e. omega (arith, h .read .named, ap (λ y. times y (entries q)) e) in omega arith
 
   -- an entry's box lies in the exploded group's, and two entries' boxes lie apart
-  pub entry-inside : (x : ℕ) → 1 ≤ count x (entries q) → Inside (rowIn (q .exploded) t) (rowIn x (refineRows q t))
+  pub entry-inside : (x : ℕ) → 1 ≤ times x (entries q) → Inside (rowIn (q .exploded) t) (rowIn x (refineRows q t))
   entry-inside x k =
       let l = range-within (entries q) (leftOf q) same-l x k in
       let r = range-within (entries q) (rightOf q) same-r x k in
       rw (entry-row (refines h) x k)
       (record { l-low = omega arith; l-high = omega (arith, exploded-quota); r-low = omega arith; r-high = omega (arith, exploded-quota) })
 
-  pub entries-apart : (x y : ℕ) → x ≢ y → 1 ≤ count x (entries q) → 1 ≤ count y (entries q) → Parted (rowIn x (refineRows q t)) (rowIn y (refineRows q t))
+  pub entries-apart : (x y : ℕ) → x ≢ y → 1 ≤ times x (entries q) → 1 ≤ times y (entries q) → Parted (rowIn x (refineRows q t)) (rowIn y (refineRows q t))
   entries-apart x y n hx hy =
       rw (entry-row (refines h) x hx, entry-row (refines h) y hy)
       (record {
@@ -108,14 +108,14 @@ module _ {room : ℕ} {q : Request} {t : List Row} (h : Refining room q t) where
         in-r = ranges-apart (entries q) (rightOf q) same-r x y _ n (entry-once x hx) (entry-once y hy);
       })
 
-  entry-sound : (x : ℕ) → 1 ≤ count x (entries q) → SoundRow (rowIn x (refineRows q t))
+  entry-sound : (x : ℕ) → 1 ≤ times x (entries q) → SoundRow (rowIn x (refineRows q t))
   entry-sound x k =
       inside-sound (rowIn (q .exploded) t) (rowIn x (refineRows q t))
       (rw (entry-row (refines h) x k) (entry-id x k)) (rw (entry-row (refines h) x k) (entry-quota x k))
       (entry-inside x k) (h .sound .row (q .exploded) (h .ok .known))
 
   -- an entry's box and the box of another group
-  pub entry-other : (x y : ℕ) → 1 ≤ count x (entries q) → OtherIn q t y → Parted (rowIn x (refineRows q t)) (rowIn y t)
+  pub entry-other : (x y : ℕ) → 1 ≤ times x (entries q) → OtherIn q t y → Parted (rowIn x (refineRows q t)) (rowIn y t)
   entry-other x y k o =
       inside-parted (rowIn (q .exploded) t) (rowIn x (refineRows q t)) (rowIn y t) (entry-inside x k)
       (h .sound .pair (q .exploded) y (λ e. o .0 (sym e)) (h .ok .known) (o .1))
@@ -123,11 +123,11 @@ module _ {room : ℕ} {q : Request} {t : List Row} (h : Refining room q t) where
   pub other-row : (x : ℕ) → OtherIn q t x → rowIn x (refineRows q t) ≡ rowIn x t
   other-row x o = kept-row (refines h) x (o .0) (o .1)
 
-  row-after : (x : ℕ) → (1 ≤ count x (entries q)) ⊎ OtherIn q t x → SoundRow (rowIn x (refineRows q t))
+  row-after : (x : ℕ) → (1 ≤ times x (entries q)) ⊎ OtherIn q t x → SoundRow (rowIn x (refineRows q t))
   row-after x (inl k) = entry-sound x k
   row-after x (inr o) = rw (other-row x o) (h .sound .row x (o .1))
 
-  pair-after : (x y : ℕ) → x ≢ y → (1 ≤ count x (entries q)) ⊎ OtherIn q t x → (1 ≤ count y (entries q)) ⊎ OtherIn q t y
+  pair-after : (x y : ℕ) → x ≢ y → (1 ≤ times x (entries q)) ⊎ OtherIn q t x → (1 ≤ times y (entries q)) ⊎ OtherIn q t y
       → Parted (rowIn x (refineRows q t)) (rowIn y (refineRows q t))
   pair-after x y n (inl k) (inl m) = entries-apart x y n k m
   pair-after x y n (inl k) (inr o) = rw (other-row y o) (entry-other x y k o)

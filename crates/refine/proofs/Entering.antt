@@ -13,7 +13,7 @@ use Rattle.request.specs.Numbering.{size}
 use Rattle.request.specs.Request.{Request, entries}
 use Rattle.request.proofs.Sums.{sum-append}
 use Rattle.request.proofs.Numbering.{size-length}
-use Rattle.refine.specs.Work.{Work, Stored, Told, listed}
+use Rattle.refine.specs.Work.{Work, Stored, InWork, listed}
 use borrow.Author.Tests.{ne-eqb}
 
 -- the values stand in a list from an index on
@@ -83,7 +83,7 @@ pub ids-stand : (w : Work) (at : ℕ) (t : Forest) → Stored w at t → Values 
 ids-stand w at t s = stored-values (λ w. w .ids) (λ e. e .id) w (λ at i q c r s. s .0 .id-is) at t s
 
 -- the entries of a request in the work columns, each with a value that stands in a column
-pub told-listed : {w : Work} {u m s : ℕ} {up : Bool} {a : Request} → Told w u up m s a → (values : List ℕ) (f : Entry → ℕ) → Values values 0 (map f (entries a))
+pub told-listed : {w : Work} {u m s : ℕ} {up : Bool} {a : Request} → InWork w u up m s a → (values : List ℕ) (f : Entry → ℕ) → Values values 0 (map f (entries a))
     → listed (w .ids) values 0 m ≡ map (λ e. entry (e .id) (f e)) (entries a)
 told-listed {w} {a = a} told values f v = ap (listed (w .ids) values 0) (told .entries-are) ∙ stored-listed w values f 0 (a .trees) (told .stored) v
 
@@ -93,7 +93,7 @@ map-self [] = refl
 map-self (e ∷ s) = ap (λ t. e ∷ t) (map-self s)
 
 -- and with their quotas
-pub entries-listed : {w : Work} {u m s : ℕ} {up : Bool} {a : Request} → Told w u up m s a → listed (w .ids) (w .quotas) 0 m ≡ entries a
+pub entries-listed : {w : Work} {u m s : ℕ} {up : Bool} {a : Request} → InWork w u up m s a → listed (w .ids) (w .quotas) 0 m ≡ entries a
 entries-listed {w} {a = a} told = told-listed told (w .quotas) (λ e. e .quota) (quotas-stand w 0 (a .trees) (told .stored)) ∙ map-self (entries a)
 
 -- every quota that stands there is at least 1

@@ -9,40 +9,40 @@ use lib.ListN.{length, getD, set, take, drop, length-set, length-append, length-
 use lib.Seq.{sets, sets-eq, set-comm, drop-cons, drop-set-lt, getD-set-same, getD-set-other, length-take-le}
 use borrow.Author.Tests.{eq-eqb, ne-eqb}
 use Rattle.rules.proofs.Cases.{by-lt, by-eq}
-use Rattle.request.specs.Entries.{Entry, entry, pick, count, quotaOf}
+use Rattle.request.specs.Entries.{Entry, entry, pick, times, quotaOf, without}
 use Rattle.request.specs.Request.{Request, entries}
 use Rattle.request.proofs.Sums.{quota-none}
 use Rattle.table.specs.Columns.{Row, Columns, rowAt, rowsFrom, rows, overlay}
 use Rattle.table.specs.Check.{somePair, sameId}
 use Rattle.table.proofs.Tests.{some-found, pair-found}
-use Rattle.refine.specs.Refine.{without, rowFor, keptRows, newRows, refineRows, lOf, rOf}
+use Rattle.refine.specs.Refine.{rowFor, keptRows, newRows, refineRows, lOf, rOf}
 use Rattle.refine.specs.Placing.{placed}
 
 -- entries none of which has the id u, and one of which has it
-placed-none : (u own next : ℕ) (s : List Entry) (column : List ℕ) → count u s ≡ 0 → placed u own next s column ≡ sets column next (map (λ e. e .quota) s)
+placed-none : (u own next : ℕ) (s : List Entry) (column : List ℕ) → times u s ≡ 0 → placed u own next s column ≡ sets column next (map (λ e. e .quota) s)
 unfolding placed
 placed-none u own next [] column h = refl
 placed-none u own next (e ∷ s) column h =
-    (elim (eqb u (e .id)) as (λ b. pick b 1 0 + count u s ≡ 0
+    (elim (eqb u (e .id)) as (λ b. pick b 1 0 + times u s ≡ 0
     → cond b (placed u own next s (set column own (e .quota))) (placed u own (suc next) s (set column next (e .quota))) ≡ sets (set column next (e .quota)) (suc next) (map (λ e. e .quota) s))
     [ true ↦ λ h. let z : ⊥ = omega arith in absurd z | false ↦ λ h. placed-none u own (suc next) s (set column next (e .quota)) (omega arith) ]) h
 
-without-none : (u : ℕ) (s : List Entry) → count u s ≡ 0 → without u s ≡ s
+without-none : (u : ℕ) (s : List Entry) → times u s ≡ 0 → without u s ≡ s
 without-none u [] h = refl
 without-none u (e ∷ s) h =
-    (elim (eqb u (e .id)) as (λ b. pick b 1 0 + count u s ≡ 0 → cond b (without u s) (e ∷ without u s) ≡ e ∷ s)
+    (elim (eqb u (e .id)) as (λ b. pick b 1 0 + times u s ≡ 0 → cond b (without u s) (e ∷ without u s) ≡ e ∷ s)
     [ true ↦ λ h. let z : ⊥ = omega arith in absurd z | false ↦ λ h. ap (λ t. e ∷ t) (without-none u s (omega arith)) ]) h
 
-pub placed-one : (u own next : ℕ) (s : List Entry) (column : List ℕ) → own < next → count u s ≡ 1
+pub placed-one : (u own next : ℕ) (s : List Entry) (column : List ℕ) → own < next → times u s ≡ 1
     → placed u own next s column ≡ sets (set column own (quotaOf u s)) next (map (λ e. e .quota) (without u s))
 unfolding placed
 placed-one u own next [] column h k = let z : ⊥ = omega arith in absurd z
 placed-one u own next (e ∷ s) column h k =
-    (elim (eqb u (e .id)) as (λ b. pick b 1 0 + count u s ≡ 1
+    (elim (eqb u (e .id)) as (λ b. pick b 1 0 + times u s ≡ 1
     → cond b (placed u own next s (set column own (e .quota))) (placed u own (suc next) s (set column next (e .quota)))
     ≡ sets (set column own (pick b (e .quota) 0 + quotaOf u s)) next (map (λ e. e .quota) (cond b (without u s) (e ∷ without u s)))) [
       | true ↦ λ k.
-          let n : count u s ≡ 0 = omega arith in
+          let n : times u s ≡ 0 = omega arith in
           let v : e .quota ≡ e .quota + quotaOf u s = omega (arith, quota-none u s n) in
           placed-none u own next s (set column own (e .quota)) n ∙ ap₂ (λ x t. sets (set column own x) next (map (λ e. e .quota) t)) v (sym (without-none u s n))
       | false ↦ λ k.
@@ -80,14 +80,14 @@ map-without f u (e ∷ s) =
     [ true ↦ map-without f u s | false ↦ ap (λ t. f e ∷ t) (map-without f u s) ]
 
 -- new values leave each id as often as it was
-pub count-map : (f : Entry → ℕ) (u : ℕ) (s : List Entry) → count u (map (λ e. entry (e .id) (f e)) s) ≡ count u s
+pub count-map : (f : Entry → ℕ) (u : ℕ) (s : List Entry) → times u (map (λ e. entry (e .id) (f e)) s) ≡ times u s
 count-map f u [] = refl
 count-map f u (e ∷ s) = ap (λ n. pick (eqb u (e .id)) 1 0 + n) (count-map f u s)
 
-without-length : (u : ℕ) (s : List Entry) → count u s ≡ 1 → length (without u s) + 1 ≡ length s
+without-length : (u : ℕ) (s : List Entry) → times u s ≡ 1 → length (without u s) + 1 ≡ length s
 without-length u [] h = let z : ⊥ = omega arith in absurd z
 without-length u (e ∷ s) h =
-    (elim (eqb u (e .id)) as (λ b. pick b 1 0 + count u s ≡ 1 → length (cond b (without u s) (e ∷ without u s)) + 1 ≡ suc (length s))
+    (elim (eqb u (e .id)) as (λ b. pick b 1 0 + times u s ≡ 1 → length (cond b (without u s) (e ∷ without u s)) + 1 ≡ suc (length s))
     [ true ↦ λ h. rw (without-none u s (omega arith)) (omega arith) | false ↦ λ h. omega (arith, without-length u s (omega arith)) ]) h
 
 map-same : {A B : Type 0} (f g : A → B) (s : List A) → ((x : A) → f x ≡ g x) → map f s ≡ map g s
@@ -96,7 +96,7 @@ map-same f g (x ∷ s) h = ap₂ (λ y l. y ∷ l) (h x) (map-same f g s h)
 
 -- one column of the table after an accepted request: `of` reads the column's number off a row, and `f` is what an entry has there
 module _ (c : Columns) (n u own : ℕ) (a : Request) (ue : u ≡ a .exploded) (is : getD (c .id) own 0 ≡ u) (inside : own < n) (ids : somePair sameId (rows c n) ≡ false)
-    (once : count u (entries a) ≡ 1) (of : Row → ℕ) (column : List ℕ) (fits : n + length (entries a) ≤ length column + 1) (reads : (k : ℕ) → of (rowAt c k) ≡ getD column k 0)
+    (once : times u (entries a) ≡ 1) (of : Row → ℕ) (column : List ℕ) (fits : n + length (entries a) ≤ length column + 1) (reads : (k : ℕ) → of (rowAt c k) ≡ getD column k 0)
     (f : Entry → ℕ) (others : (e : Entry) → of (rowFor a (lOf (a .exploded) (rows c n)) (rOf (a .exploded) (rows c n)) e) ≡ f e)
     (own-row : of (rowFor a (getD (c .l) own 0) (getD (c .r) own 0) (entry (a .exploded) (quotaOf (a .exploded) (entries a)))) ≡ quotaOf u (map (λ e. entry (e .id) (f e)) (entries a))) where
   new : List Entry

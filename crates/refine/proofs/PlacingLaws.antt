@@ -8,7 +8,7 @@ use native.Mathlib.Numerals.{add-one}
 use lib.Dec.{eqb}
 use lib.ListN.{length, getD, set, length-set}
 use borrow.Author.Tests.{eq-eqb, ne-eqb}
-use Rattle.request.specs.Entries.{Entry, entry, pick, count, someEntry}
+use Rattle.request.specs.Entries.{Entry, entry, pick, times, someEntry}
 use Rattle.refine.specs.Placing.{placed}
 use Rattle.refine.specs.Work.{listed}
 
@@ -31,26 +31,26 @@ pick-one : (b : Bool) → pick b 1 0 ≤ 1
 pick-one true = omega arith
 pick-one false = omega arith
 
-pub count-most : (x : ℕ) (ids values : List ℕ) (i n : ℕ) → count x (listed ids values i n) ≤ n
+pub count-most : (x : ℕ) (ids values : List ℕ) (i n : ℕ) → times x (listed ids values i n) ≤ n
 count-most x ids values i zero = omega arith
 count-most x ids values i (suc n) = omega (arith, count-most x ids values (suc i) n, pick-one (eqb x (getD ids i 0)))
 
 module _ (x : ℕ) (ids values : List ℕ) (i n : ℕ) (h : i < n) where
-  pub count-here : getD ids i 0 ≡ x → count x (listed ids values i (n - i)) ≡ 1 + count x (listed ids values (i + 1) (n - (i + 1)))
-  count-here e = ap (count x) (listed-step ids values i n h) ∙ rw (eq-eqb x (getD ids i 0) (sym e))
+  pub count-here : getD ids i 0 ≡ x → times x (listed ids values i (n - i)) ≡ 1 + times x (listed ids values (i + 1) (n - (i + 1)))
+  count-here e = ap (times x) (listed-step ids values i n h) ∙ rw (eq-eqb x (getD ids i 0) (sym e))
 
-  pub count-past : (getD ids i 0 ≡ x → ⊥) → count x (listed ids values i (n - i)) ≡ count x (listed ids values (i + 1) (n - (i + 1)))
-  count-past e = ap (count x) (listed-step ids values i n h) ∙ rw (ne-eqb x (getD ids i 0) (λ f. e (sym f))) (omega arith)
+  pub count-past : (getD ids i 0 ≡ x → ⊥) → times x (listed ids values i (n - i)) ≡ times x (listed ids values (i + 1) (n - (i + 1)))
+  count-past e = ap (times x) (listed-step ids values i n h) ∙ rw (ne-eqb x (getD ids i 0) (λ f. e (sym f))) (omega arith)
 
 -- what is left to write, from entry i on, makes the whole column
 pub record Places (column₀ : List ℕ) (own next u : ℕ) (ids values : List ℕ) (n : ℕ) (column : List ℕ) (row i : ℕ) : Type 0 where
   pub inside : i ≤ n
   pub same : length column ≡ length column₀
   pub apart : own < row
-  pub room : row + (n - i) ≤ length column + count u (listed ids values i (n - i))
+  pub room : row + (n - i) ≤ length column + times u (listed ids values i (n - i))
   pub whole : placed u own row (listed ids values i (n - i)) column ≡ placed u own next (listed ids values 0 n) column₀
 
-pub begins : {column : List ℕ} {own next u : ℕ} {ids values : List ℕ} {n : ℕ} → own < next → next + n ≤ length column + count u (listed ids values 0 n)
+pub begins : {column : List ℕ} {own next u : ℕ} {ids values : List ℕ} {n : ℕ} → own < next → next + n ≤ length column + times u (listed ids values 0 n)
     → Places column own next u ids values n column next 0
 begins {u = u} {ids = ids} {values = values} {n = n} a r =
     let e : n - 0 ≡ n = omega arith in

@@ -18,7 +18,7 @@ use Rattle.request.specs.Request.{Request}
 use Rattle.request.specs.Reading.{positiveAt, entryAt, EntryRead, TreesRead, treesBy, treesAt, directionOf, requestOf}
 use Rattle.request.proofs.ReadLaws.{positive-some, entry-some, read-trees}
 use Rattle.request.proofs.Numbering.{size-length}
-use Rattle.refine.specs.Work.{Work, work, EntryIn, Stored, Roomy, SameBelow, Reached, reached, Walked, directionBy, isUpright, Summary, summary, HeardIn}
+use Rattle.refine.specs.Work.{Work, work, EntryIn, Stored, Roomy, SameBelow, Reached, reached, Walked, directionBy, isUpright, Summary, summary, DrawnIn}
 
 -- ## A number that may not be 0
 
@@ -383,7 +383,7 @@ again bytes at trees room used w {ids} {quotas} {ends} {sums} {ids2} {quotas2} {
 trees-some : (room n : ℕ) (bytes : List ℕ) (at used : ℕ) {t : TreesRead} → treesAt room n bytes at used ≡ answer t → 1 ≤ n → 1 ≤ size (t .trees)
 trees-some room n bytes at used {t} e l = omega (arith, read-trees room n bytes at used e .some l, size-length (t .trees))
 
-pub unheard : (bytes : List ℕ) {n : ℕ} (w : Work) → requestOf bytes ≡ refused n → (refused n ≡ summary (requestOf bytes)) × HeardIn (requestOf bytes) w
+pub unheard : (bytes : List ℕ) {n : ℕ} (w : Work) → requestOf bytes ≡ refused n → (refused n ≡ summary (requestOf bytes)) × DrawnIn (requestOf bytes) w
 unheard bytes w e = (rw e, rw e tt)
 
 upright-is : (d : ℕ) → eqb d 0 ≡ isUpright (directionOf d)
@@ -442,7 +442,7 @@ module _ (bytes : List ℕ) where
   pub heard : {x d q m s p u z : ℕ} → Begun bytes x d q → found m s ≡ positiveAt bytes q
       → answer (record { next = p; used = u; quota = z }) ≡ reached (treesAt 16 m bytes s 0) → length bytes ≤ p
       → (w v : Work) → Walked (treesAt 16 m bytes s 0) 0 w v
-      → (answer (record { exploded = x; upright = eqb d 0; entries = u; quota = z }) ≡ summary (requestOf bytes)) × HeardIn (requestOf bytes) v
+      → (answer (record { exploded = x; upright = eqb d 0; entries = u; quota = z }) ≡ summary (requestOf bytes)) × DrawnIn (requestOf bytes) v
   heard {x} {d} {q} {m} {s} {p} {u} {z} b h e l w v k =
       let f = reach-found (treesAt 16 m bytes s 0) e in
       let t = f .0 in
@@ -473,7 +473,7 @@ pub record Understood (a : Answer Request) (w : Work) (exploded : ℕ) (up : Boo
   pub entries-most : entries ≤ 256
   pub quota-is : quota ≡ whole (request .trees)
 
-pub understood : (a : Answer Request) (w : Work) {x u z : ℕ} {up : Bool} → answer (record { exploded = x; upright = up; entries = u; quota = z }) ≡ summary a → HeardIn a w
+pub understood : (a : Answer Request) (w : Work) {x u z : ℕ} {up : Bool} → answer (record { exploded = x; upright = up; entries = u; quota = z }) ≡ summary a → DrawnIn a w
     → Understood a w x up u z
 understood (refused n) w e h = never-refused (sym e)
 understood (answer q) w e h =

@@ -1,5 +1,5 @@
 -- What an accepted request promises of the rows after it.
-use mathlib.Core.Path.{_≡_, sym, _∙_}
+use mathlib.Core.Path.{_≡_, ap, sym, _∙_}
 use mathlib.Core.Bool.{true}
 use mathlib.Core.List.{List}
 use mathlib.Core.Logic.{inl, inr, _↔_}
@@ -8,8 +8,9 @@ use native.Mathlib.Omega.{arith}
 use lib.ListN.{length}
 use borrow.Author.Tests.{le-leb}
 use Rattle.rules.specs.Answers.{answer}
+use Rattle.rules.proofs.Answers.{same-answer, then-answer}
 use Rattle.boxes.specs.Boxes.{boxOf, within, contains, disjoint}
-use Rattle.request.specs.Entries.{count, quotaOf, before, Distinct, Positive}
+use Rattle.request.specs.Entries.{times, quotaOf, before, Distinct, Positive}
 use Rattle.request.specs.Forest.{Forest, Direction, preL, left, right, treeOrder}
 use Rattle.request.specs.Request.{Request, entries, leftOf, rightOf}
 use Rattle.request.specs.Reading.{requestOf}
@@ -18,11 +19,12 @@ use Rattle.request.proofs.Sums.{Clear, leb-iff, sum-at, own-quotas}
 use Rattle.request.proofs.Trees
 use Rattle.request.proofs.ReadLaws.{request-read}
 use Rattle.request.proofs.Accepting.{request-accepted}
-use Rattle.table.specs.Columns.{Row}
-use Rattle.table.specs.Check.{soundRows}
+use Rattle.table.specs.Columns.{Row, Columns, rows}
+use Rattle.table.specs.Check.{soundRows, checked}
+use Rattle.table.proofs.Passing.{rows-good, check-passed}
 use Rattle.table.specs.Order.{subgroup}
-use Rattle.refine.specs.Refine.{groupsOf, lOf, rOf, refineRows}
-use Rattle.refine.specs.Theorems.{EntryIn, OtherIn, qOf, boxIn, subgroupIn, Cut, Promises}
+use Rattle.refine.specs.Refine.{groupsOf, lOf, rOf, refineRows, explodedRows, refined}
+use Rattle.refine.specs.Theorems.{IsEntry, OtherIn, qOf, boxIn, subgroupIn, Cut, Promises}
 use Rattle.refine.proofs.Lookup.{rowIn, l-row, r-row, quota-row}
 use Rattle.refine.proofs.Soundness.{Parted, clear-apart, sound-ids, ids-sound}
 use Rattle.refine.proofs.After.{entry-row, distinct-after, groups-after, length-after, groups-length, entry-after}
@@ -34,7 +36,7 @@ unfolding subgroup
 subgroup-iff l r k s l′ r′ k′ s′ f g = rw (leb-iff l k l′ k′ (f .0) (f .1), leb-iff r s r′ s′ (g .0) (g .1))
 
 -- Theorem 1 of the paper
-pub tree-order : (d : Direction) (t : Forest) (x y : ℕ) → Positive (preL t) → count x (preL t) ≡ 1 → count y (preL t) ≡ 1
+pub tree-order : (d : Direction) (t : Forest) (x y : ℕ) → Positive (preL t) → times x (preL t) ≡ 1 → times y (preL t) ≡ 1
     → treeOrder d t x y ≡ subgroup (before x (left d t)) (before x (right d t)) (before y (left d t)) (before y (right d t))
 unfolding subgroup
 tree-order d t x y pos hx hy = Trees.tree-order d t x y pos hx hy
@@ -64,7 +66,7 @@ unfolding disjoint
 parted-disjoint w v h k p = rw (clear-apart _ _ _ _ h k (p .in-l), clear-apart _ _ _ _ h k (p .in-r))
 
 module _ {room : ℕ} {q : Request} {t : List Row} (h : Refining room q t) where
-  entry-some : (x : ℕ) → EntryIn q x → 1 ≤ rowIn x (refineRows q t) .q
+  entry-some : (x : ℕ) → IsEntry q x → 1 ≤ rowIn x (refineRows q t) .q
   entry-some x k = sound-after h .row x (entry-after (refines h) x k) .q-some
 
   kept : (x : ℕ) → OtherIn q t x → (lOf x (refineRows q t) ≡ lOf x t) × (rOf x (refineRows q t) ≡ rOf x t) × (qOf x (refineRows q t) ≡ qOf x t)
@@ -75,10 +77,10 @@ module _ {room : ℕ} {q : Request} {t : List Row} (h : Refining room q t) where
   )
 
   -- the size of an entry's box
-  entry-size : (x : ℕ) → EntryIn q x → qOf x (refineRows q t) ≡ quotaOf x (entries q)
+  entry-size : (x : ℕ) → IsEntry q x → qOf x (refineRows q t) ≡ quotaOf x (entries q)
   entry-size x k = quota-row x (refineRows q t) (distinct-after (refines h) x) ∙ rw (entry-row (refines h) x k)
 
-  entry-numbers : (x : ℕ) → EntryIn q x
+  entry-numbers : (x : ℕ) → IsEntry q x
       → (lOf x (refineRows q t) ≡ lOf (q .exploded) t + before x (leftOf q)) × (rOf x (refineRows q t) ≡ rOf (q .exploded) t + before x (rightOf q))
       × (qOf x (refineRows q t) ≡ quotaOf x (entries q))
   entry-numbers x k =
@@ -96,7 +98,7 @@ module _ {room : ℕ} {q : Request} {t : List Row} (h : Refining room q t) where
   }
 
   -- Theorem 1: among the entries
-  pub entries-order : (x y : ℕ) → EntryIn q x → EntryIn q y → subgroupIn (refineRows q t) x y ≡ treeOrder (q .direction) (q .trees) x y
+  pub entries-order : (x y : ℕ) → IsEntry q x → IsEntry q y → subgroupIn (refineRows q t) x y ≡ treeOrder (q .direction) (q .trees) x y
   entries-order x y hx hy =
       by-rows (refineRows q t) x y
       ∙ rw (entry-row (refines h) x hx, entry-row (refines h) y hy)
@@ -104,7 +106,7 @@ module _ {room : ℕ} {q : Request} {t : List Row} (h : Refining room q t) where
       ∙ sym (tree-order (q .direction) (q .trees) x y (h .read .positive) (entry-once h x hx) (entry-once h y hy))
 
   -- Theorem 6: an entry and a group outside the box
-  module _ (x e : ℕ) (o : OtherIn q t x) (k : EntryIn q e) where
+  module _ (x e : ℕ) (o : OtherIn q t x) (k : IsEntry q e) where
     outside : Parted (rowIn (q .exploded) t) (rowIn x t)
     outside = h .sound .pair (q .exploded) x (λ e. o .0 (sym e)) (h .ok .known) (o .1)
 
@@ -155,6 +157,22 @@ pub refining : (room : ℕ) (t : List Row) (bytes : List ℕ) (q : Request) → 
     → accepted room (groupsOf t) q ≡ answer q → Refining room q t
 refining room t bytes q s r a = record { sound = sound-ids t s; read = request-read bytes r; ok = request-accepted room (groupsOf t) q a .0 }
 
-pub promises : (room : ℕ) (t : List Row) (bytes : List ℕ) (q : Request) → soundRows t ≡ answer t → requestOf bytes ≡ answer q
+pub promises-of-rows : (room : ℕ) (t : List Row) (bytes : List ℕ) (q : Request) → soundRows t ≡ answer t → requestOf bytes ≡ answer q
     → accepted room (groupsOf t) q ≡ answer q → Promises room q t (refineRows q t)
-promises room t bytes q s r a = promised (refining room t bytes q s r a)
+promises-of-rows room t bytes q s r a = promised (refining room t bytes q s r a)
+
+along : {room : ℕ} {q : Request} {t s t′ s′ : List Row} → t ≡ s → t′ ≡ s′ → Promises room q t t′ → Promises room q s s′
+along e f p = rw (← e, ← f) p
+
+-- what refine finds on any columns and bytes: a request was read, and the promises hold of the rows before and after it
+pub promises : (c : Columns) (count : ℕ) (bytes : List ℕ) {t′ : List Row} → refined c count bytes ≡ answer t′
+    → (q : Request) × (requestOf bytes ≡ answer q) × Promises (length (c .id)) q (rows c count) t′
+unfolding refined explodedRows
+promises c count bytes {t′} e =
+    let checks = then-answer (checked c count) _ e in
+    let reads = then-answer (requestOf bytes) _ (checks .2) in
+    let accepts = then-answer (accepted (length (c .id)) (groupsOf (checks .0)) (reads .0)) _ (reads .2) in
+    let p = check-passed c count (checks .1) in
+    let ok = accepts .1 ∙ ap answer (sym (request-accepted (length (c .id)) (groupsOf (checks .0)) (reads .0) (accepts .1) .1)) in
+    let sound : soundRows (checks .0) ≡ answer (checks .0) = rw (← (p .1)) (rows-good (rows c count) (p .0 .good)) in
+    (reads .0, reads .1, along (sym (p .1)) (same-answer (accepts .2)) (promises-of-rows (length (c .id)) (checks .0) bytes (reads .0) sound (reads .1) ok))

@@ -11,7 +11,7 @@ use Rattle.rules.specs.Answers.{answer}
 use Rattle.rules.specs.Limits.{greatest}
 use Rattle.rules.proofs.Bools.{or-none}
 use Rattle.boxes.specs.Boxes.{apart}
-use Rattle.request.specs.Entries.{count, Distinct}
+use Rattle.request.specs.Entries.{times, Distinct}
 use Rattle.request.proofs.Sums.{Clear}
 use Rattle.table.specs.Columns.{Row}
 use Rattle.table.specs.Check.{valueBad, rangesMeet, soundRows}
@@ -87,8 +87,8 @@ parted-ranges w v h k p = rw (clear-apart _ _ _ _ h k (p .in-l), clear-apart _ _
 -- every group has a sound row, and two groups lie apart
 pub record SoundIds (t : List Row) : Type 0 where
   pub distinct : Distinct (groupsOf t)
-  pub row : (x : ℕ) → 1 ≤ count x (groupsOf t) → SoundRow (rowIn x t)
-  pub pair : (x y : ℕ) → x ≢ y → 1 ≤ count x (groupsOf t) → 1 ≤ count y (groupsOf t) → Parted (rowIn x t) (rowIn y t)
+  pub row : (x : ℕ) → 1 ≤ times x (groupsOf t) → SoundRow (rowIn x t)
+  pub pair : (x y : ℕ) → x ≢ y → 1 ≤ times x (groupsOf t) → 1 ≤ times y (groupsOf t) → Parted (rowIn x t) (rowIn y t)
 
 pub good-ids : (t : List Row) → Good t → SoundIds t
 good-ids t g = record {

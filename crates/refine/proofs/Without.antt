@@ -8,9 +8,8 @@ use native.Mathlib.Omega.{arith}
 use native.Mathlib.Nat.{zero-add}
 use lib.Dec.{eqb}
 use borrow.Author.Tests.{eqb-true, ne-eqb}
-use Rattle.request.specs.Entries.{Entry, entry, pick, sum, oneAt, quotaAt, count, quotaOf}
+use Rattle.request.specs.Entries.{Entry, entry, pick, sum, oneAt, quotaAt, times, quotaOf, without}
 use Rattle.request.proofs.Sums.{quota-none, sum-at}
-use Rattle.refine.specs.Refine.{without}
 
 -- f, but nothing at the id u
 abbrev pub but : ℕ → (Entry → ℕ) → Entry → ℕ
@@ -22,17 +21,17 @@ sum-without f u (e ∷ s) =
     elim (eqb u (e .id)) as (λ b. sum f (cond b (without u s) (e ∷ without u s)) ≡ pick b 0 (f e) + sum (but u f) s)
     [ true ↦ omega (arith, sum-without f u s) | false ↦ omega (arith, sum-without f u s) ]
 
-pub sum-none : (f : Entry → ℕ) (u : ℕ) (s : List Entry) → count u s ≡ 0 → sum (but u f) s ≡ sum f s
+pub sum-none : (f : Entry → ℕ) (u : ℕ) (s : List Entry) → times u s ≡ 0 → sum (but u f) s ≡ sum f s
 sum-none f u [] h = refl
 sum-none f u (e ∷ s) h =
-    (elim (eqb u (e .id)) as (λ b. pick b 1 0 + count u s ≡ 0 → pick b 0 (f e) + sum (but u f) s ≡ f e + sum f s)
+    (elim (eqb u (e .id)) as (λ b. pick b 1 0 + times u s ≡ 0 → pick b 0 (f e) + sum (but u f) s ≡ f e + sum f s)
     [ true ↦ λ h. absurd (omega arith) | false ↦ λ h. omega (arith, sum-none f u s (omega arith)) ]) h
 
 -- a sum, with u's part apart
-pub sum-split : (f : Entry → ℕ) (u : ℕ) (s : List Entry) → count u s ≡ 1 → sum f s ≡ f (entry u (quotaOf u s)) + sum (but u f) s
+pub sum-split : (f : Entry → ℕ) (u : ℕ) (s : List Entry) → times u s ≡ 1 → sum f s ≡ f (entry u (quotaOf u s)) + sum (but u f) s
 sum-split f u [] h = absurd (omega arith)
 sum-split f u (e ∷ s) h =
-    (elim (eqb u (e .id)) as (λ b. eqb u (e .id) ≡ b → pick b 1 0 + count u s ≡ 1 → f e + sum f s ≡ f (entry u (pick b (e .quota) 0 + quotaOf u s)) + (pick b 0 (f e) + sum (but u f) s)) [
+    (elim (eqb u (e .id)) as (λ b. eqb u (e .id) ≡ b → pick b 1 0 + times u s ≡ 1 → f e + sum f s ≡ f (entry u (pick b (e .quota) 0 + quotaOf u s)) + (pick b 0 (f e) + sum (but u f) s)) [
       | true ↦ λ p h.
           let z : quotaOf u s ≡ 0 = quota-none u s (omega arith) in
           let y : e .quota + quotaOf u s ≡ e .quota = omega arith in
@@ -54,13 +53,13 @@ module _ (x u : ℕ) (n : x ≢ u) where
       [ true ↦ λ p. sym (ap (λ c. pick c (e .quota) 0) (ne-eqb x (e .id) (λ k. n (k ∙ sym (eqb-true u (e .id) p))))) | false ↦ λ p. refl ]) refl
 
 module _ (x u : ℕ) (s : List Entry) (n : x ≢ u) where
-  pub count-but : sum (but u (oneAt x)) s ≡ count x s
+  pub count-but : sum (but u (oneAt x)) s ≡ times x s
   count-but = sum-at (but u (oneAt x)) (oneAt x) s (λ e _. one-but x u n e)
 
   pub quotas-but : sum (but u (quotaAt x)) s ≡ quotaOf x s
   quotas-but = sum-at (but u (quotaAt x)) (quotaAt x) s (λ e _. quota-but x u n e)
 
-  pub count-without : count x (without u s) ≡ count x s
+  pub count-without : times x (without u s) ≡ times x s
   count-without = sum-without (oneAt x) u s ∙ count-but
 
   pub quota-without : quotaOf x (without u s) ≡ quotaOf x s

@@ -8,7 +8,7 @@ use lib.Dec.{eqb}
 use lib.ListN.{length, getD}
 use borrow.Author.Tests.{eq-eqb, ne-eqb, eqb-true}
 use Rattle.rules.specs.Answers.{answer}
-use Rattle.request.specs.Entries.{Entry, entry, pick, count, quotaOf, before, Distinct}
+use Rattle.request.specs.Entries.{Entry, entry, pick, times, quotaOf, before, Distinct}
 use Rattle.request.specs.Numbering.{whole, lefts, rights}
 use Rattle.request.specs.Request.{Request, entries, leftOf, rightOf}
 use Rattle.request.specs.Acceptance.{accepted}
@@ -23,7 +23,7 @@ use Rattle.table.proofs.Passing.{Passed, check-passed}
 use Rattle.table.proofs.Soundness.{check-sound}
 use Rattle.refine.specs.Refine.{groupsOf, lOf, rOf, rowFor, refineRows}
 use Rattle.refine.specs.Placing.{placed, PlaceIn}
-use Rattle.refine.specs.Work.{Work, Told, Boxed, listed, directionBy}
+use Rattle.refine.specs.Work.{Work, InWork, Boxed, listed, directionBy}
 use Rattle.refine.proofs.Lookup.{rowIn, l-row, r-row, quota-row, ids-distinct}
 use Rattle.refine.proofs.After.{groups-length}
 use Rattle.refine.proofs.Placement.{count-map, column-after}
@@ -55,22 +55,22 @@ module _ (c : Columns) (n x i : ℕ) (p : PlaceIn (c .id) n x i) (h : i < n) whe
 
 -- the value at the id u, where it goes by the id
 by-head : (g : ℕ → ℕ) (u : ℕ) (e : Entry) (s : List Entry) (b : Bool) → eqb u (e .id) ≡ b
-    → (count u s ≡ 1 → quotaOf u (map (λ e. entry (e .id) (g (e .id))) s) ≡ g u) → pick b 1 0 + count u s ≡ 1
+    → (times u s ≡ 1 → quotaOf u (map (λ e. entry (e .id) (g (e .id))) s) ≡ g u) → pick b 1 0 + times u s ≡ 1
     → pick b (g (e .id)) 0 + quotaOf u (map (λ e. entry (e .id) (g (e .id))) s) ≡ g u
 by-head g u e s true f ih h = let v : e .id ≡ u = sym (eqb-true u (e .id) f) in omega (arith, quota-none u (map (λ e. entry (e .id) (g (e .id))) s) (count-map (λ e. g (e .id)) u s ∙ omega arith), ap g v)
 by-head g u e s false f ih h = omega (arith, ih (omega arith))
 
-quota-by-id : (g : ℕ → ℕ) (u : ℕ) (s : List Entry) → count u s ≡ 1 → quotaOf u (map (λ e. entry (e .id) (g (e .id))) s) ≡ g u
+quota-by-id : (g : ℕ → ℕ) (u : ℕ) (s : List Entry) → times u s ≡ 1 → quotaOf u (map (λ e. entry (e .id) (g (e .id))) s) ≡ g u
 quota-by-id g u [] h = let z : ⊥ = omega arith in absurd z
 quota-by-id g u (e ∷ s) h = by-head g u e s (eqb u (e .id)) refl (quota-by-id g u s) h
 
 -- how often an id comes does not hang on the values
-pub count-any : (x : ℕ) (ids v v′ : List ℕ) (at n : ℕ) → count x (listed ids v at n) ≡ count x (listed ids v′ at n)
+pub count-any : (x : ℕ) (ids v v′ : List ℕ) (at n : ℕ) → times x (listed ids v at n) ≡ times x (listed ids v′ at n)
 count-any x ids v v′ at zero = refl
 count-any x ids v v′ at (suc n) = ap (λ k. pick (eqb x (getD ids at 0)) 1 0 + k) (count-any x ids v v′ (suc at) n)
 
 -- everything that is known of an accepted request and the columns
-module _ (c : Columns) (n u own : ℕ) (a : Request) (w : Work) (up : Bool) (m s : ℕ) (told : Told w u up m s a)
+module _ (c : Columns) (n u own : ℕ) (a : Request) (w : Work) (up : Bool) (m s : ℕ) (told : InWork w u up m s a)
     (good : checked c n ≡ answer (rows c n)) (ok : accepted (length (c .id)) (groupsOf (rows c n)) a ≡ answer a) (p : PlaceIn (c .id) n u own) (h : own < n) where
   pub passed : Passed c n
   passed = check-passed c n good .0
@@ -78,8 +78,8 @@ module _ (c : Columns) (n u own : ℕ) (a : Request) (w : Work) (up : Bool) (m s
   pub taken : Accepted (length (c .id)) (groupsOf (rows c n)) a
   taken = request-accepted (length (c .id)) (groupsOf (rows c n)) a ok .0
 
-  once : count u (entries a) ≡ 1
-  once = ap (λ x. count x (entries a)) (told .exploded-is) ∙ taken .once
+  once : times u (entries a) ≡ 1
+  once = ap (λ x. times x (entries a)) (told .exploded-is) ∙ taken .once
 
   pub entries-count : m ≡ length (entries a)
   entries-count = told .entries-are ∙ size-length (a .trees)
@@ -94,8 +94,8 @@ module _ (c : Columns) (n u own : ℕ) (a : Request) (w : Work) (up : Bool) (m s
   quotas-listed : listed (w .ids) (w .quotas) 0 m ≡ map (λ e. entry (e .id) (e .quota)) (entries a)
   quotas-listed = told-listed told (w .quotas) (λ e. e .quota) (quotas-stand w 0 (a .trees) (told .stored))
 
-  pub once-listed : (v : List ℕ) → count u (listed (w .ids) v 0 m) ≡ 1
-  once-listed v = count-any u (w .ids) v (w .quotas) 0 m ∙ ap (count u) (entries-listed told) ∙ once
+  pub once-listed : (v : List ℕ) → times u (listed (w .ids) v 0 m) ≡ 1
+  once-listed v = count-any u (w .ids) v (w .quotas) 0 m ∙ ap (times u) (entries-listed told) ∙ once
 
   -- the numbers that the walk gave out, in front of what else the work column has
   module _ (nl rest : List ℕ) (e : nl ≡ lefts (directionBy up) (getD (c .l) own 0) (a .trees) ++ rest) where

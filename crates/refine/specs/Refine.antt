@@ -5,7 +5,7 @@ use Prim.Native.Nat.{ℕ, _+_}
 use lib.Dec.{eqb}
 use lib.ListN.{length}
 use Rattle.rules.specs.Answers.{Answer, answer, then}
-use Rattle.request.specs.Entries.{Entry, entry, pick, quotaOf, before}
+use Rattle.request.specs.Entries.{Entry, entry, pick, quotaOf, before, without}
 use Rattle.request.specs.Request.{Request, entries, leftOf, rightOf}
 use Rattle.request.specs.Reading.{requestOf}
 use Rattle.request.specs.Acceptance.{accepted}
@@ -28,11 +28,6 @@ rOf x (w ∷ t) = pick (eqb x (w .id)) (w .r) (rOf x t)
 -- the row of an entry: new l = old l of the exploded group + quotas before the entry in L; new r likewise with R
 abbrev pub rowFor : Request → (l r : ℕ) → Entry → Row
 rowFor q l r e = record { id = e .id; l = l + before (e .id) (leftOf q); r = r + before (e .id) (rightOf q); q = e .quota }
-
--- some entries without the id u
-abbrev pub without : ℕ → List Entry → List Entry
-without u [] = []
-without u (e ∷ s) = cond (eqb u (e .id)) (without u s) (e ∷ without u s)
 
 -- the exploded id keeps its row
 abbrev pub keptRows : Request → List Row → List Row

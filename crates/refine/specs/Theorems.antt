@@ -8,20 +8,20 @@ use lib.ListN.{length}
 use Rattle.rules.specs.Answers.{answer}
 use Rattle.boxes.specs.Boxes.{boxOf, contains, disjoint}
 use Rattle.boxes.specs.declared.Box.{Box}
-use Rattle.request.specs.Entries.{sum, count, quotaOf, before, Same}
+use Rattle.request.specs.Entries.{sum, times, quotaOf, before, Same, without}
 use Rattle.request.specs.Forest.{treeOrder}
 use Rattle.request.specs.Request.{Request, entries, leftOf, rightOf}
 use Rattle.table.specs.Columns.{Row}
 use Rattle.table.specs.Check.{soundRows}
 use Rattle.table.specs.Order.{subgroup}
-use Rattle.refine.specs.Refine.{groupsOf, lOf, rOf, without}
+use Rattle.refine.specs.Refine.{groupsOf, lOf, rOf}
 
 -- x is one of the entries; one of the groups in some rows
-abbrev pub EntryIn : Request → ℕ → Type 0
-EntryIn q x = 1 ≤ count x (entries q)
+abbrev pub IsEntry : Request → ℕ → Type 0
+IsEntry q x = 1 ≤ times x (entries q)
 
 abbrev pub GroupIn : List Row → ℕ → Type 0
-GroupIn t x = 1 ≤ count x (groupsOf t)
+GroupIn t x = 1 ≤ times x (groupsOf t)
 
 -- a group that is not exploded
 abbrev pub OtherIn : Request → List Row → ℕ → Type 0
@@ -39,8 +39,8 @@ subgroupIn t x y = subgroup (lOf x t) (rOf x t) (lOf y t) (rOf y t)
 
 -- the box of the exploded group is cut up: each entry's box lies in it, two entries' boxes are disjoint, and their sizes add up to its size
 pub record Cut (q : Request) (t t′ : List Row) : Type 0 where
-  pub inside : (x : ℕ) → EntryIn q x → contains (boxIn t (q .exploded)) (boxIn t′ x) ≡ true
-  pub separate : (x y : ℕ) → x ≢ y → EntryIn q x → EntryIn q y → disjoint (boxIn t′ x) (boxIn t′ y) ≡ true
+  pub inside : (x : ℕ) → IsEntry q x → contains (boxIn t (q .exploded)) (boxIn t′ x) ≡ true
+  pub separate : (x y : ℕ) → x ≢ y → IsEntry q x → IsEntry q y → disjoint (boxIn t′ x) (boxIn t′ y) ≡ true
   pub sizes : sum (λ e. qOf (e .id) t′) (entries q) ≡ qOf (q .exploded) t
 
 pub record Promises (room : ℕ) (q : Request) (t t′ : List Row) : Type 0 where
@@ -52,12 +52,12 @@ pub record Promises (room : ℕ) (q : Request) (t t′ : List Row) : Type 0 wher
   pub refined-groups : Same (groupsOf t′) (without (q .exploded) (groupsOf t) ++ entries q)
   pub kept : (x : ℕ) → OtherIn q t x → (lOf x t′ ≡ lOf x t) × (rOf x t′ ≡ rOf x t) × (qOf x t′ ≡ qOf x t)
   -- an entry's numbers begin where the exploded group's did, after the quotas before it in L and in R
-  pub entry-numbers : (x : ℕ) → EntryIn q x
+  pub entry-numbers : (x : ℕ) → IsEntry q x
       → (lOf x t′ ≡ lOf (q .exploded) t + before x (leftOf q)) × (rOf x t′ ≡ rOf (q .exploded) t + before x (rightOf q)) × (qOf x t′ ≡ quotaOf x (entries q))
   pub cut : Cut q t t′
   -- among the entries the order is that of the trees
-  pub entries-order : (x y : ℕ) → EntryIn q x → EntryIn q y → subgroupIn t′ x y ≡ treeOrder (q .direction) (q .trees) x y
+  pub entries-order : (x y : ℕ) → IsEntry q x → IsEntry q y → subgroupIn t′ x y ≡ treeOrder (q .direction) (q .trees) x y
   -- an entry stands to every other group as the exploded group did, and the others stand to each other as they did
-  pub entry-below : (x e : ℕ) → OtherIn q t x → EntryIn q e → subgroupIn t′ e x ≡ subgroupIn t (q .exploded) x
-  pub entry-above : (x e : ℕ) → OtherIn q t x → EntryIn q e → subgroupIn t′ x e ≡ subgroupIn t x (q .exploded)
+  pub entry-below : (x e : ℕ) → OtherIn q t x → IsEntry q e → subgroupIn t′ e x ≡ subgroupIn t (q .exploded) x
+  pub entry-above : (x e : ℕ) → OtherIn q t x → IsEntry q e → subgroupIn t′ x e ≡ subgroupIn t x (q .exploded)
   pub others-order : (x y : ℕ) → OtherIn q t x → OtherIn q t y → subgroupIn t′ x y ≡ subgroupIn t x y

@@ -81,9 +81,9 @@ abbrev pub summary : Answer Request → Answer Summary
 summary found = then found λ q. answer (record { exploded = q .exploded; upright = isUpright (q .direction); entries = size (q .trees); quota = whole (q .trees) })
 
 -- the trees of a request that is heard stand in the work columns, with 1 to 256 entries
-abbrev pub HeardIn : Answer Request → Work → Type 0
-HeardIn (answer q) w = Stored w 0 (q .trees) × (1 ≤ size (q .trees)) × (size (q .trees) ≤ mostEntries)
-HeardIn (refused n) w = Unit {0}
+abbrev pub DrawnIn : Answer Request → Work → Type 0
+DrawnIn (answer q) w = Stored w 0 (q .trees) × (1 ≤ size (q .trees)) × (size (q .trees) ≤ mostEntries)
+DrawnIn (refused n) w = Unit {0}
 
 -- the numbering of a forest that stands in the work columns, in a box of the forest's quota
 pub record Boxed (w : Work) (from to l r quota : ℕ) (ls rs : List ℕ) (t : Forest) : Type 0 where
@@ -101,7 +101,7 @@ listed ids quotas at zero = []
 listed ids quotas at (suc n) = entry (getD ids at 0) (getD quotas at 0) ∷ listed ids quotas (suc at) n
 
 -- the work columns hold a request that was read
-pub record Told (w : Work) (exploded : ℕ) (up : Bool) (entries quota : ℕ) (q : Request) : Type 0 where
+pub record InWork (w : Work) (exploded : ℕ) (up : Bool) (entries quota : ℕ) (q : Request) : Type 0 where
   pub roomy : Roomy w
   pub stored : Stored w 0 (q .trees)
   pub exploded-is : exploded ≡ q .exploded

@@ -8,7 +8,7 @@ pub use refining::refine;
 use rules::Refusal;
 
 // An entry as it is read.
-enum Taken {
+enum EntryDrawn {
     // Id, quota, number of children, and the position after them.
     Entry(u32, u32, u32, usize),
     Refused(Refusal),
@@ -22,7 +22,7 @@ enum Walk {
 }
 
 // A request as it is heard; its entries stand in the work columns.
-enum Heard {
+enum RequestDrawn {
     // Exploded id, whether the direction is upright, number of entries, and all their quota.
     Request {
         exploded: u32,

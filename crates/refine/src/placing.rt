@@ -3,7 +3,7 @@ ghost use mathlib.Core.Path.{_≡_};
 ghost use mathlib.Core.List.{List};
 ghost use Prim.Native.Nat.{ℕ, _+_, _≤_, _<_};
 ghost use lib.ListN.{length};
-ghost use Rattle.request.specs.Entries.{count};
+ghost use Rattle.request.specs.Entries.{times};
 ghost use Rattle.refine.specs.Placing.{placed, PlaceIn};
 ghost use Rattle.refine.specs.Work.{listed};
 
@@ -25,7 +25,7 @@ pub(crate) fn place_of(column: &[u32], n: usize, x: u32) -> usize
 // How often x stands among the first n of a column.
 pub(crate) fn times(column: &[u32], n: usize, x: u32) -> usize
     requires { ⌜ n ≤ length (now column) ⌝ }
-    ensures { λ k. ⌜ ((values : List ℕ) → k ≡ count x (listed (now (column .entry)) values 0 n)) ⌝ }
+    ensures { λ k. ⌜ ((values : List ℕ) → k ≡ times x (listed (now (column .entry)) values 0 n)) ⌝ }
 {
     let mut k = 0;
     let mut i = 0;
@@ -49,7 +49,7 @@ pub(crate) fn place(
     entries: usize,
 )
     requires { ⌜ (entries ≤ length (now ids)) × (entries ≤ length (now values)) ⌝ }
-    requires { ⌜ (own < next) × (next + entries ≤ length (now column) + count exploded (listed (now ids) (now values) 0 entries)) ⌝ }
+    requires { ⌜ (own < next) × (next + entries ≤ length (now column) + times exploded (listed (now ids) (now values) 0 entries)) ⌝ }
     ensures { λ _. ⌜ now (column .exit) ≡ placed exploded own next (listed (now (ids .entry)) (now (values .entry)) 0 entries) (now (column .entry)) ⌝ }
 {
     let mut row = next;

@@ -4,10 +4,10 @@ ghost use Prim.Native.Nat.{_≤_};
 ghost use Rattle.rules.specs.Limits.{mostEntries};
 ghost use Rattle.number.specs.Says.{drawnSays};
 ghost use Rattle.request.specs.Reading.{positiveAt, entryAt, treesAt, requestOf};
-ghost use Rattle.refine.specs.Says.{takenSays, walkSays, heardSays};
-ghost use Rattle.refine.specs.Work.{work, Roomy, Walked, reached, HeardIn, summary};
-use crate::Heard;
-use crate::Taken;
+ghost use Rattle.refine.specs.Says.{entrySays, walkSays, requestSays};
+ghost use Rattle.refine.specs.Work.{work, Roomy, Walked, reached, DrawnIn, summary};
+use crate::EntryDrawn;
+use crate::RequestDrawn;
 use crate::Walk;
 use number::Drawn;
 use rules::GREATEST_DEPTH;
@@ -30,16 +30,16 @@ fn positive_at(bytes: &[u8], at: usize) -> Drawn
 }
 
 // The entry at a position.
-fn entry_at(bytes: &[u8], at: usize) -> Taken
-    ensures { λ t. ⌜ takenSays t ≡ entryAt (now (bytes .entry)) at ⌝ }
+fn entry_at(bytes: &[u8], at: usize) -> EntryDrawn
+    ensures { λ t. ⌜ entrySays t ≡ entryAt (now (bytes .entry)) at ⌝ }
 {
     match positive_at(bytes, at) {
-        Drawn::Refused(why) => Taken::Refused(why),
+        Drawn::Refused(why) => EntryDrawn::Refused(why),
         Drawn::Number(id, after_id) => match positive_at(bytes, after_id) {
-            Drawn::Refused(why) => Taken::Refused(why),
+            Drawn::Refused(why) => EntryDrawn::Refused(why),
             Drawn::Number(quota, after_quota) => match reader::draw_at(bytes, after_quota) {
-                Drawn::Refused(why) => Taken::Refused(why),
-                Drawn::Number(children, next) => Taken::Entry(id, quota, children, next),
+                Drawn::Refused(why) => EntryDrawn::Refused(why),
+                Drawn::Number(children, next) => EntryDrawn::Entry(id, quota, children, next),
             },
         },
     }
@@ -75,10 +75,10 @@ pub(crate) fn read_trees(
             return Walk::Refused(Refusal::Depth);
         }
         match entry_at(bytes, place) {
-            Taken::Refused(why) => {
+            EntryDrawn::Refused(why) => {
                 return Walk::Refused(why);
             }
-            Taken::Entry(id, quota, children, after) => {
+            EntryDrawn::Entry(id, quota, children, after) => {
                 ids[next] = id;
                 quotas[next] = quota;
                 match read_trees(
@@ -118,21 +118,21 @@ pub(crate) fn read_request(
     quotas: &mut [u32],
     ends: &mut [usize],
     sums: &mut [u64],
-) -> Heard
+) -> RequestDrawn
     requires { ⌜ Roomy (work (now ids) (now quotas) (now ends) (now sums)) ⌝ }
-    ensures { λ t. ⌜ heardSays t ≡ summary (requestOf (now (bytes .entry))) ⌝ }
-    ensures { λ t. ⌜ HeardIn (requestOf (now (bytes .entry))) (work (now (ids .exit)) (now (quotas .exit)) (now (ends .exit)) (now (sums .exit))) ⌝ }
+    ensures { λ t. ⌜ requestSays t ≡ summary (requestOf (now (bytes .entry))) ⌝ }
+    ensures { λ t. ⌜ DrawnIn (requestOf (now (bytes .entry))) (work (now (ids .exit)) (now (quotas .exit)) (now (ends .exit)) (now (sums .exit))) ⌝ }
 {
     match positive_at(bytes, 0) {
-        Drawn::Refused(why) => Heard::Refused(why),
+        Drawn::Refused(why) => RequestDrawn::Refused(why),
         Drawn::Number(exploded, after_exploded) => match reader::draw_at(bytes, after_exploded) {
-            Drawn::Refused(why) => Heard::Refused(why),
+            Drawn::Refused(why) => RequestDrawn::Refused(why),
             Drawn::Number(direction, after_direction) => {
                 if 1 < direction {
-                    return Heard::Refused(Refusal::Direction);
+                    return RequestDrawn::Refused(Refusal::Direction);
                 }
                 match positive_at(bytes, after_direction) {
-                    Drawn::Refused(why) => Heard::Refused(why),
+                    Drawn::Refused(why) => RequestDrawn::Refused(why),
                     Drawn::Number(trees, first) => match read_trees(
                         bytes,
                         first,
@@ -144,12 +144,12 @@ pub(crate) fn read_request(
                         &mut *ends,
                         &mut *sums,
                     ) {
-                        Walk::Refused(why) => Heard::Refused(why),
+                        Walk::Refused(why) => RequestDrawn::Refused(why),
                         Walk::Reach(end, entries, quota) => {
                             if end < bytes.len() {
-                                return Heard::Refused(Refusal::BytesRemain);
+                                return RequestDrawn::Refused(Refusal::BytesRemain);
                             }
-                            Heard::Request {
+                            RequestDrawn::Request {
                                 exploded,
                                 upright: direction == 0,
                                 entries,

@@ -7,7 +7,7 @@ ghost use lib.Dec.{eqb, leb};
 ghost use lib.ListN.{length, getD};
 ghost use Rattle.rules.specs.Answers.{answer};
 ghost use Rattle.rules.specs.Limits.{mostEntries};
-ghost use Rattle.request.specs.Entries.{count as timesOf};
+ghost use Rattle.request.specs.Entries.{times as timesOf};
 ghost use Rattle.request.specs.Entries.{has, someEntry};
 ghost use Rattle.request.specs.Request.{Request};
 ghost use Rattle.table.specs.Columns.{columns, rows, counted, afterwards, put};
@@ -16,8 +16,8 @@ ghost use Rattle.table.specs.Says.{countedSays};
 ghost use Rattle.request.specs.Acceptance.{accepted};
 ghost use Rattle.refine.specs.Placing.{PlaceIn};
 ghost use Rattle.refine.specs.Refine.{groupsOf, refineRows, explodedRows, refined};
-ghost use Rattle.refine.specs.Work.{work, listed, Told};
-use crate::Heard;
+ghost use Rattle.refine.specs.Work.{work, listed, InWork};
+use crate::RequestDrawn;
 use crate::numbering::number_trees;
 use crate::placing::place;
 use crate::placing::place_of;
@@ -80,8 +80,8 @@ fn write_entries(
     requires { ⌜ (length (now «new_l») ≡ mostEntries) × (length (now «new_r») ≡ mostEntries) ⌝ }
     requires { ⌜ checked (columns (now id) (now l) (now r) (now q)) count ≡ answer (rows (columns (now id) (now l) (now r) (now q)) count) ⌝ }
     requires { ⌜ PlaceIn (now id) count exploded own × (own < count) ⌝ }
-    requires { ⌜ ((a : Request) × (s : ℕ) × Told (work (now ids) (now quotas) (now ends) (now sums)) exploded upright entries s a × (accepted (length (now id)) (groupsOf (rows (columns (now id) (now l) (now r) (now q)) count)) a ≡ answer a)) ⌝ }
-    ensures { λ _. ⌜ ((a : Request) (s : ℕ) → Told (work (now (ids .entry)) (now (quotas .entry)) (now (ends .entry)) (now (sums .entry))) exploded upright entries s a → accepted (length (now (id .entry))) (groupsOf (rows (columns (now (id .entry)) (now (l .entry)) (now (r .entry)) (now (q .entry))) count)) a ≡ answer a → columns (now (id .exit)) (now (l .exit)) (now (r .exit)) (now (q .exit)) ≡ put (refineRows a (rows (columns (now (id .entry)) (now (l .entry)) (now (r .entry)) (now (q .entry))) count)) (columns (now (id .entry)) (now (l .entry)) (now (r .entry)) (now (q .entry)))) ⌝ }
+    requires { ⌜ ((a : Request) × (s : ℕ) × InWork (work (now ids) (now quotas) (now ends) (now sums)) exploded upright entries s a × (accepted (length (now id)) (groupsOf (rows (columns (now id) (now l) (now r) (now q)) count)) a ≡ answer a)) ⌝ }
+    ensures { λ _. ⌜ ((a : Request) (s : ℕ) → InWork (work (now (ids .entry)) (now (quotas .entry)) (now (ends .entry)) (now (sums .entry))) exploded upright entries s a → accepted (length (now (id .entry))) (groupsOf (rows (columns (now (id .entry)) (now (l .entry)) (now (r .entry)) (now (q .entry))) count)) a ≡ answer a → columns (now (id .exit)) (now (l .exit)) (now (r .exit)) (now (q .exit)) ≡ put (refineRows a (rows (columns (now (id .entry)) (now (l .entry)) (now (r .entry)) (now (q .entry))) count)) (columns (now (id .entry)) (now (l .entry)) (now (r .entry)) (now (q .entry)))) ⌝ }
 {
     let area = Box::new(l[own], r[own], q[own]);
     number_trees(
@@ -121,8 +121,8 @@ fn explode(
 ) -> Counted
     requires { ⌜ (length (now «new_l») ≡ mostEntries) × (length (now «new_r») ≡ mostEntries) ⌝ }
     requires { ⌜ checked (columns (now id) (now l) (now r) (now q)) count ≡ answer (rows (columns (now id) (now l) (now r) (now q)) count) ⌝ }
-    requires { ⌜ ((a : Request) × Told (work (now ids) (now quotas) (now ends) (now sums)) exploded upright entries quota a) ⌝ }
-    ensures { λ t. ⌜ ((a : Request) → Told (work (now (ids .entry)) (now (quotas .entry)) (now (ends .entry)) (now (sums .entry))) exploded upright entries quota a → (countedSays t ≡ counted (explodedRows (length (now (id .entry))) (rows (columns (now (id .entry)) (now (l .entry)) (now (r .entry)) (now (q .entry))) count) a)) × (columns (now (id .exit)) (now (l .exit)) (now (r .exit)) (now (q .exit)) ≡ afterwards (explodedRows (length (now (id .entry))) (rows (columns (now (id .entry)) (now (l .entry)) (now (r .entry)) (now (q .entry))) count) a) (columns (now (id .entry)) (now (l .entry)) (now (r .entry)) (now (q .entry))))) ⌝ }
+    requires { ⌜ ((a : Request) × InWork (work (now ids) (now quotas) (now ends) (now sums)) exploded upright entries quota a) ⌝ }
+    ensures { λ t. ⌜ ((a : Request) → InWork (work (now (ids .entry)) (now (quotas .entry)) (now (ends .entry)) (now (sums .entry))) exploded upright entries quota a → (countedSays t ≡ counted (explodedRows (length (now (id .entry))) (rows (columns (now (id .entry)) (now (l .entry)) (now (r .entry)) (now (q .entry))) count) a)) × (columns (now (id .exit)) (now (l .exit)) (now (r .exit)) (now (q .exit)) ≡ afterwards (explodedRows (length (now (id .entry))) (rows (columns (now (id .entry)) (now (l .entry)) (now (r .entry)) (now (q .entry))) count) a) (columns (now (id .entry)) (now (l .entry)) (now (r .entry)) (now (q .entry))))) ⌝ }
 {
     let own = place_of(&*id, count, exploded);
     if own == count {
@@ -199,8 +199,8 @@ fn refine_sound(
     let mut new_l = places();
     let mut new_r = places();
     match read_request(request, &mut ids, &mut quotas, &mut ends, &mut sums) {
-        Heard::Refused(why) => Counted::Refused(why),
-        Heard::Request {
+        RequestDrawn::Refused(why) => Counted::Refused(why),
+        RequestDrawn::Request {
             exploded,
             upright,
             entries,

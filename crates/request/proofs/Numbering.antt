@@ -6,7 +6,7 @@ use Prim.Native.Nat.{ℕ, _+_, _≤_}
 use native.Mathlib.Omega.{arith}
 use lib.Dec.{eqb}
 use lib.ListN.{length, length-append}
-use Rattle.request.specs.Entries.{pick, quota, oneAt, noQuota, Entry, entry, total, count, before, Distinct, Positive}
+use Rattle.request.specs.Entries.{pick, quota, oneAt, noQuota, Entry, entry, total, times, before, Distinct, Positive}
 use Rattle.request.specs.Forest.{Forest, none, tree, Direction, upright, inverted, preL, preR, postL, postR, left, right}
 use Rattle.request.specs.Numbering.{whole, size, upL, upR, downL, downR, lefts, rights}
 use Rattle.request.proofs.Sums.{sum-append, eqb-same, count-head}
@@ -21,7 +21,7 @@ whole-total none = refl
 whole-total (tree i q c r) = omega (arith, sum-append quota (preL c) (preL r), whole-total c, whole-total r)
 
 -- two functions that agree at the entries of a list
-map-at : (f g : Entry → ℕ) (s : List Entry) → ((e : Entry) → 1 ≤ count (e .id) s → f e ≡ g e) → map f s ≡ map g s
+map-at : (f g : Entry → ℕ) (s : List Entry) → ((e : Entry) → 1 ≤ times (e .id) s → f e ≡ g e) → map f s ≡ map g s
 map-at f g [] h = refl
 map-at f g (e ∷ s) h = ap₂ (λ x l. x ∷ l) (h e (count-head (e .id) s)) (map-at f g s (λ v k. h v (omega arith)))
 
@@ -37,13 +37,13 @@ module _ (i q : ℕ) (c r : Forest) (pos : Positive (preL (tree i q c r))) (d : 
       let u = d i in
       at-root i i q c r pos (eqb-same i) (omega arith) (omega arith)
 
-  in-children : (x : ℕ) → 1 ≤ count x (preL c) → Inside x i q c r
+  in-children : (x : ℕ) → 1 ≤ times x (preL c) → Inside x i q c r
   in-children x h =
       let s = sum-append (oneAt x) (preL c) (preL r) in
       let u = d x in
       at-inside x i q c r pos (pick-false (eqb x i) (omega arith)) (omega arith) (omega arith)
 
-  in-rest : (x : ℕ) → 1 ≤ count x (preL r) → Beyond x i q c r
+  in-rest : (x : ℕ) → 1 ≤ times x (preL r) → Beyond x i q c r
   in-rest x h =
       let s = sum-append (oneAt x) (preL c) (preL r) in
       let u = d x in

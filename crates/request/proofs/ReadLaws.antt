@@ -11,7 +11,7 @@ use Rattle.rules.specs.Answers.{Answer, answer}
 use Rattle.rules.specs.Limits.{mostEntries, greatestDepth}
 use Rattle.rules.proofs.Answers.{same-answer, never-refused, peel, wanted, then-answer}
 use Rattle.number.specs.Number.{Number, numberAt}
-use Rattle.request.specs.Entries.{pick, oneAt, noQuota, count, Positive}
+use Rattle.request.specs.Entries.{pick, oneAt, noQuota, times, Positive}
 use Rattle.request.specs.Forest.{Forest, none, tree, preL}
 use Rattle.request.specs.Request.{Request, entries}
 use Rattle.request.specs.Reading.{positiveAt, EntryRead, entryAt, TreesRead, treesBy, treesAt, requestOf}
@@ -46,7 +46,7 @@ depth (tree i q c r) = pick (leb (depth r) (depth c)) (suc (depth c)) (depth r)
 -- `n` trees that were read, where `used` entries stand before them and there is room for `room` depths
 pub record ReadTrees (room n used : ℕ) (a : TreesRead) : Type 0 where
   pub positive : Positive (preL (a .trees))
-  pub named : count 0 (preL (a .trees)) ≡ 0
+  pub named : times 0 (preL (a .trees)) ≡ 0
   pub counted : a .used ≡ used + length (preL (a .trees))
   pub some : 1 ≤ n → 1 ≤ length (preL (a .trees))
   pub most : used ≤ mostEntries → a .used ≤ mostEntries
@@ -97,7 +97,7 @@ read-trees (suc room) n bytes at used e = read-by (λ m p k. treesAt room m byte
 pub record ReadRequest (q : Request) : Type 0 where
   pub exploded-some : 1 ≤ q .exploded
   pub positive : Positive (entries q)
-  pub named : count 0 (entries q) ≡ 0
+  pub named : times 0 (entries q) ≡ 0
   pub entries-some : 1 ≤ length (entries q)
   pub entries-most : length (entries q) ≤ mostEntries
   pub deep : depth (q .trees) ≤ greatestDepth

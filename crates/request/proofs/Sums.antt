@@ -8,7 +8,7 @@ use native.Mathlib.Omega.{arith}
 use lib.Dec.{eqb, leb}
 use lib.ListN.{length}
 use borrow.Author.Tests.{eqb-true, eq-eqb, le-leb, lt-leb, leb-true}
-use Rattle.request.specs.Entries.{Entry, pick, sum, total, count, quotaOf, before, Same, Distinct, Positive}
+use Rattle.request.specs.Entries.{Entry, pick, sum, total, times, quotaOf, before, Same, Distinct, Positive}
 
 pub sum-append : (f : Entry → ℕ) (s t : List Entry) → sum f (s ++ t) ≡ sum f s + sum f t
 sum-append f [] t = omega arith
@@ -25,20 +25,20 @@ pub eqb-same : (x : ℕ) → eqb x x ≡ true
 eqb-same x = eq-eqb x x refl
 
 -- the first of some entries is one of them
-pub count-head : (x : ℕ) (s : List Entry) → 1 ≤ pick (eqb x x) 1 0 + count x s
+pub count-head : (x : ℕ) (s : List Entry) → 1 ≤ pick (eqb x x) 1 0 + times x s
 count-head x s = rw (eqb-same x) (omega arith)
 
 -- the quotas before an id of s, in s and more entries; before an id that s does not have
-pub before-left : (x : ℕ) (s t : List Entry) → 1 ≤ count x s → before x (s ++ t) ≡ before x s
+pub before-left : (x : ℕ) (s t : List Entry) → 1 ≤ times x s → before x (s ++ t) ≡ before x s
 before-left x [] t h = absurd (omega arith)
 before-left x (e ∷ s) t h =
-    (elim (eqb x (e .id)) as (λ b. 1 ≤ pick b 1 0 + count x s → pick b 0 (e .quota + before x (s ++ t)) ≡ pick b 0 (e .quota + before x s))
+    (elim (eqb x (e .id)) as (λ b. 1 ≤ pick b 1 0 + times x s → pick b 0 (e .quota + before x (s ++ t)) ≡ pick b 0 (e .quota + before x s))
     [ true ↦ λ h. refl | false ↦ λ h. omega (arith, before-left x s t (omega arith)) ]) h
 
-pub before-right : (x : ℕ) (s t : List Entry) → count x s ≡ 0 → before x (s ++ t) ≡ total s + before x t
+pub before-right : (x : ℕ) (s t : List Entry) → times x s ≡ 0 → before x (s ++ t) ≡ total s + before x t
 before-right x [] t h = omega arith
 before-right x (e ∷ s) t h =
-    (elim (eqb x (e .id)) as (λ b. pick b 1 0 + count x s ≡ 0 → pick b 0 (e .quota + before x (s ++ t)) ≡ e .quota + total s + before x t)
+    (elim (eqb x (e .id)) as (λ b. pick b 1 0 + times x s ≡ 0 → pick b 0 (e .quota + before x (s ++ t)) ≡ e .quota + total s + before x t)
     [ true ↦ λ h. omega arith | false ↦ λ h. omega (arith, before-right x s t (omega arith)) ]) h
 
 pub before-here : (x : ℕ) (e : Entry) (s : List Entry) → eqb x (e .id) ≡ true → before x (e ∷ s) ≡ 0
@@ -53,17 +53,17 @@ quota-total x (e ∷ s) =
     elim (eqb x (e .id)) as (λ b. pick b (e .quota) 0 + quotaOf x s ≤ e .quota + total s)
     [ true ↦ omega (arith, quota-total x s) | false ↦ omega (arith, quota-total x s) ]
 
-pub quota-none : (x : ℕ) (s : List Entry) → count x s ≡ 0 → quotaOf x s ≡ 0
+pub quota-none : (x : ℕ) (s : List Entry) → times x s ≡ 0 → quotaOf x s ≡ 0
 quota-none x [] h = refl
 quota-none x (e ∷ s) h =
-    (elim (eqb x (e .id)) as (λ b. pick b 1 0 + count x s ≡ 0 → pick b (e .quota) 0 + quotaOf x s ≡ 0)
+    (elim (eqb x (e .id)) as (λ b. pick b 1 0 + times x s ≡ 0 → pick b (e .quota) 0 + quotaOf x s ≡ 0)
     [ true ↦ λ h. absurd (omega arith) | false ↦ λ h. omega (arith, quota-none x s (omega arith)) ]) h
 
 -- the range of x ends where the whole sequence does, or before that
-pub before-within : (x : ℕ) (s : List Entry) → 1 ≤ count x s → before x s + quotaOf x s ≤ total s
+pub before-within : (x : ℕ) (s : List Entry) → 1 ≤ times x s → before x s + quotaOf x s ≤ total s
 before-within x [] h = absurd (omega arith)
 before-within x (e ∷ s) h =
-    (elim (eqb x (e .id)) as (λ b. 1 ≤ pick b 1 0 + count x s → pick b 0 (e .quota + before x s) + (pick b (e .quota) 0 + quotaOf x s) ≤ e .quota + total s)
+    (elim (eqb x (e .id)) as (λ b. 1 ≤ pick b 1 0 + times x s → pick b 0 (e .quota + before x s) + (pick b (e .quota) 0 + quotaOf x s) ≤ e .quota + total s)
     [ true ↦ λ h. omega (arith, quota-total x s) | false ↦ λ h. omega (arith, before-within x s (omega arith)) ]) h
 
 pub some-quota : (q : ℕ) → pick (eqb q 0) 1 0 ≡ 0 → 1 ≤ q
@@ -74,13 +74,13 @@ positive-step : (n : Bool) (q c k : ℕ) → 1 ≤ q → c ≤ k → pick n 1 0 
 positive-step true q c k h l = omega arith
 positive-step false q c k h l = omega arith
 
-pub positive-quota : (x : ℕ) (s : List Entry) → Positive s → count x s ≤ quotaOf x s
+pub positive-quota : (x : ℕ) (s : List Entry) → Positive s → times x s ≤ quotaOf x s
 positive-quota x [] h = omega arith
 positive-quota x (e ∷ s) h =
-    positive-step (eqb x (e .id)) (e .quota) (count x s) (quotaOf x s) (some-quota (e .quota) (omega arith)) (positive-quota x s (omega arith))
+    positive-step (eqb x (e .id)) (e .quota) (times x s) (quotaOf x s) (some-quota (e .quota) (omega arith)) (positive-quota x s (omega arith))
 
 -- two functions that agree at the entries have one sum
-pub sum-at : (f g : Entry → ℕ) (s : List Entry) → ((e : Entry) → 1 ≤ count (e .id) s → f e ≡ g e) → sum f s ≡ sum g s
+pub sum-at : (f g : Entry → ℕ) (s : List Entry) → ((e : Entry) → 1 ≤ times (e .id) s → f e ≡ g e) → sum f s ≡ sum g s
 sum-at f g [] h = refl
 sum-at f g (e ∷ s) h = omega (arith, h e (count-head (e .id) s), sum-at f g s (λ v k. h v (omega arith)))
 
@@ -92,10 +92,10 @@ own-quotas (e ∷ s) d =
     let own : pick (eqb (e .id) (e .id)) (e .quota) 0 ≡ e .quota = rw (eqb-same (e .id)) in
     omega (arith, quota-none (e .id) s (omega (arith, d (e .id))), sum-at (λ v. quotaOf (v .id) (e ∷ s)) (λ v. quotaOf (v .id) s) s other, own-quotas s (λ x. omega (arith, d x)))
   where
-    other : (v : Entry) → 1 ≤ count (v .id) s → quotaOf (v .id) (e ∷ s) ≡ quotaOf (v .id) s
+    other : (v : Entry) → 1 ≤ times (v .id) s → quotaOf (v .id) (e ∷ s) ≡ quotaOf (v .id) s
     other v k = go (eqb (v .id) (e .id)) (d (v .id))
       where
-        go : (b : Bool) → pick b 1 0 + count (v .id) s ≤ 1 → pick b (e .quota) 0 + quotaOf (v .id) s ≡ quotaOf (v .id) s
+        go : (b : Bool) → pick b 1 0 + times (v .id) s ≤ 1 → pick b (e .quota) 0 + quotaOf (v .id) s ≡ quotaOf (v .id) s
         go true h = absurd (omega arith)
         go false h = omega arith
 
@@ -116,11 +116,11 @@ apart-step false false n q cx bx qx cy by qy zx zy ih hx hy = go (ih (omega arit
     go (inr h) = inr (omega arith)
 
 -- the ranges of two entries in a sequence
-pub apart : (x y : ℕ) (s : List Entry) → x ≢ y → count x s ≡ 1 → count y s ≡ 1 → Clear (before x s) (quotaOf x s) (before y s) (quotaOf y s)
+pub apart : (x y : ℕ) (s : List Entry) → x ≢ y → times x s ≡ 1 → times y s ≡ 1 → Clear (before x s) (quotaOf x s) (before y s) (quotaOf y s)
 apart x y [] n h k = absurd (omega arith)
 apart x y (e ∷ s) n h k =
     apart-step (eqb x (e .id)) (eqb y (e .id)) (λ p q. n (eqb-true x (e .id) p ∙ sym (eqb-true y (e .id) q)))
-    (e .quota) (count x s) (before x s) (quotaOf x s) (count y s) (before y s) (quotaOf y s)
+    (e .quota) (times x s) (before x s) (quotaOf x s) (times y s) (before y s) (quotaOf y s)
     (quota-none x s) (quota-none y s) (apart x y s n) h k
 
 -- two tests that say the same

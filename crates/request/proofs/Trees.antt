@@ -5,7 +5,7 @@ use mathlib.Core.List.{List, [], _∷_, _++_}
 use Prim.Native.Nat.{ℕ, zero, suc, _+_, _≤_, _<_}
 use native.Mathlib.Omega.{arith}
 use lib.Dec.{eqb, leb}
-use Rattle.request.specs.Entries.{pick, quota, oneAt, quotaAt, noQuota, Entry, entry, total, count, has, before, Same, Positive}
+use Rattle.request.specs.Entries.{pick, quota, oneAt, quotaAt, noQuota, Entry, entry, total, times, has, before, Same, Positive}
 use Rattle.request.specs.Forest.{Forest, none, tree, Direction, upright, inverted, preL, preR, postL, postR, left, right, above, treeOrder}
 use Rattle.request.proofs.Sums.{sum-append, before-left, before-right, before-within, before-here, before-past, positive-quota, some-quota, noLater, no-later, later-l, later-r, later-iff}
 
@@ -29,8 +29,8 @@ same-postR (tree i q c r) f =
 pub record Root (x i q : ℕ) (c r : Forest) : Type 0 where
   pub is-root : eqb x i ≡ true
   pub some : 1 ≤ q
-  pub in-c : count x (preL c) ≡ 0
-  pub in-r : count x (preL r) ≡ 0
+  pub in-c : times x (preL c) ≡ 0
+  pub in-r : times x (preL r) ≡ 0
   pub at-preL : before x (preL (tree i q c r)) ≡ 0
   pub at-preR : before x (preR (tree i q c r)) ≡ total (preL r)
   pub at-postL : before x (postL (tree i q c r)) ≡ total (preL c)
@@ -39,8 +39,8 @@ pub record Root (x i q : ℕ) (c r : Forest) : Type 0 where
 -- below the root
 pub record Inside (x i q : ℕ) (c r : Forest) : Type 0 where
   pub is-root : eqb x i ≡ false
-  pub in-c : count x (preL c) ≡ 1
-  pub in-r : count x (preL r) ≡ 0
+  pub in-c : times x (preL c) ≡ 1
+  pub in-r : times x (preL r) ≡ 0
   pub at-preL : before x (preL (tree i q c r)) ≡ q + before x (preL c)
   pub at-preR : before x (preR (tree i q c r)) ≡ total (preL r) + q + before x (preR c)
   pub at-postL : before x (postL (tree i q c r)) ≡ before x (postL c)
@@ -53,8 +53,8 @@ pub record Inside (x i q : ℕ) (c r : Forest) : Type 0 where
 -- in a later tree
 pub record Beyond (x i q : ℕ) (c r : Forest) : Type 0 where
   pub is-root : eqb x i ≡ false
-  pub in-c : count x (preL c) ≡ 0
-  pub in-r : count x (preL r) ≡ 1
+  pub in-c : times x (preL c) ≡ 0
+  pub in-r : times x (preL r) ≡ 1
   pub at-preL : before x (preL (tree i q c r)) ≡ q + total (preL c) + before x (preL r)
   pub at-preR : before x (preR (tree i q c r)) ≡ before x (preR r)
   pub at-postL : before x (postL (tree i q c r)) ≡ total (preL c) + q + before x (postL r)
@@ -70,11 +70,11 @@ data Spot (x i q : ℕ) (c r : Forest) : Type 0 where
   beyond : Beyond x i q c r → Spot x i q c r
 
 -- an entry of a positive quota ends before the sequence does
-within : (x : ℕ) (s t : List Entry) → Same s t → Positive t → count x t ≡ 1 → before x s < total t
+within : (x : ℕ) (s t : List Entry) → Same s t → Positive t → times x t ≡ 1 → before x s < total t
 within x s t same pos h = omega (arith, same quota, same (quotaAt x), before-within x s (omega (arith, same (oneAt x))), positive-quota x t pos)
 
 module _ (x i q : ℕ) (c r : Forest) (pos : Positive (preL (tree i q c r))) where
-  pub at-root : eqb x i ≡ true → count x (preL c) ≡ 0 → count x (preL r) ≡ 0 → Root x i q c r
+  pub at-root : eqb x i ≡ true → times x (preL c) ≡ 0 → times x (preL r) ≡ 0 → Root x i q c r
   at-root e nc nr = record {
     is-root = e;
     some = some-quota q (omega arith);
@@ -93,7 +93,7 @@ module _ (x i q : ℕ) (c r : Forest) (pos : Positive (preL (tree i q c r))) whe
     );
   }
 
-  pub at-inside : eqb x i ≡ false → count x (preL c) ≡ 1 → count x (preL r) ≡ 0 → Inside x i q c r
+  pub at-inside : eqb x i ≡ false → times x (preL c) ≡ 1 → times x (preL r) ≡ 0 → Inside x i q c r
   at-inside e nc nr =
       let pc : Positive (preL c) = omega (arith, sum-append noQuota (preL c) (preL r)) in record {
         is-root = e;
@@ -109,7 +109,7 @@ module _ (x i q : ℕ) (c r : Forest) (pos : Positive (preL (tree i q c r))) whe
         end-postR = within x (postR c) (preL c) (same-postR c) pc nc;
       }
 
-  pub at-beyond : eqb x i ≡ false → count x (preL c) ≡ 0 → count x (preL r) ≡ 1 → Beyond x i q c r
+  pub at-beyond : eqb x i ≡ false → times x (preL c) ≡ 0 → times x (preL r) ≡ 1 → Beyond x i q c r
   at-beyond e nc nr =
       let pr : Positive (preL r) = omega (arith, sum-append noQuota (preL c) (preL r)) in record {
         is-root = e;
@@ -125,35 +125,35 @@ module _ (x i q : ℕ) (c r : Forest) (pos : Positive (preL (tree i q c r))) whe
         end-postR = within x (postR r) (preL r) (same-postR r) pr nr;
       }
 
-  spot : count x (preL (tree i q c r)) ≡ 1 → Spot x i q c r
-  spot h = go (eqb x i) refl (count x (preL c)) refl (omega (arith, sum-append (oneAt x) (preL c) (preL r)))
+  spot : times x (preL (tree i q c r)) ≡ 1 → Spot x i q c r
+  spot h = go (eqb x i) refl (times x (preL c)) refl (omega (arith, sum-append (oneAt x) (preL c) (preL r)))
     where
-      go : (b : Bool) → eqb x i ≡ b → (n : ℕ) → count x (preL c) ≡ n → pick (eqb x i) 1 0 + (count x (preL c) + count x (preL r)) ≡ 1 → Spot x i q c r
+      go : (b : Bool) → eqb x i ≡ b → (n : ℕ) → times x (preL c) ≡ n → pick (eqb x i) 1 0 + (times x (preL c) + times x (preL r)) ≡ 1 → Spot x i q c r
       go true e n k h = let h' = rw e at h in root (at-root e (omega arith) (omega arith))
       go false e zero k h = let h' = rw e at h in beyond (at-beyond e k (omega arith))
       go false e (suc n) k h = let h' = rw e at h in inside (at-inside e (omega arith) (omega arith))
 
 -- an id that stands in no tree is above none
-pub above-none : (t : Forest) (x y : ℕ) → count x (preL t) ≡ 0 → above t x y ≡ false
+pub above-none : (t : Forest) (x y : ℕ) → times x (preL t) ≡ 0 → above t x y ≡ false
 above-none none x y h = refl
 above-none (tree i q c r) x y h =
-    let k : pick (eqb x i) 1 0 + (count x (preL c) + count x (preL r)) ≡ 0 = omega (arith, sum-append (oneAt x) (preL c) (preL r)) in
+    let k : pick (eqb x i) 1 0 + (times x (preL c) + times x (preL r)) ≡ 0 = omega (arith, sum-append (oneAt x) (preL c) (preL r)) in
     go (eqb x i) k (above-none c x y (omega arith)) (above-none r x y (omega arith))
   where
-    go : (b : Bool) → pick b 1 0 + (count x (preL c) + count x (preL r)) ≡ 0 → above c x y ≡ false → above r x y ≡ false
+    go : (b : Bool) → pick b 1 0 + (times x (preL c) + times x (preL r)) ≡ 0 → above c x y ≡ false → above r x y ≡ false
         → ((b && (eqb y i || has y (preL c))) || (above c x y || above r x y)) ≡ false
     go true k p s = absurd (omega arith)
     go false k p s = rw (p, s)
 
 -- and none is above it
-pub none-above : (t : Forest) (x y : ℕ) → count y (preL t) ≡ 0 → above t x y ≡ false
+pub none-above : (t : Forest) (x y : ℕ) → times y (preL t) ≡ 0 → above t x y ≡ false
 none-above none x y h = refl
 none-above (tree i q c r) x y h =
-    let k : pick (eqb y i) 1 0 + (count y (preL c) + count y (preL r)) ≡ 0 = omega (arith, sum-append (oneAt y) (preL c) (preL r)) in
-    let z : count y (preL c) ≡ 0 = omega arith in
+    let k : pick (eqb y i) 1 0 + (times y (preL c) + times y (preL r)) ≡ 0 = omega (arith, sum-append (oneAt y) (preL c) (preL r)) in
+    let z : times y (preL c) ≡ 0 = omega arith in
     rw z (go (eqb x i) (eqb y i) k (none-above c x y z) (none-above r x y (omega arith)))
   where
-    go : (a b : Bool) → pick b 1 0 + (count y (preL c) + count y (preL r)) ≡ 0 → above c x y ≡ false → above r x y ≡ false
+    go : (a b : Bool) → pick b 1 0 + (times y (preL c) + times y (preL r)) ≡ 0 → above c x y ≡ false → above r x y ≡ false
         → ((a && (b || false)) || (above c x y || above r x y)) ≡ false
     go a true k p s = absurd (omega arith)
     go true false k p s = rw (p, s)
@@ -185,8 +185,8 @@ module _ {x y i q : ℕ} {c r : Forest} where
   above-rel (beyond a) (beyond b) = rw (a .is-root, above-none c x y (a .in-c))
 
   upright-node : (a : Spot x i q c r) (b : Spot y i q c r)
-      → (count x (preL c) ≡ 1 → count y (preL c) ≡ 1 → above c x y ≡ noLater (before x (preL c)) (before x (preR c)) (before y (preL c)) (before y (preR c)))
-      → (count x (preL r) ≡ 1 → count y (preL r) ≡ 1 → above r x y ≡ noLater (before x (preL r)) (before x (preR r)) (before y (preL r)) (before y (preR r)))
+      → (times x (preL c) ≡ 1 → times y (preL c) ≡ 1 → above c x y ≡ noLater (before x (preL c)) (before x (preR c)) (before y (preL c)) (before y (preR c)))
+      → (times x (preL r) ≡ 1 → times y (preL r) ≡ 1 → above r x y ≡ noLater (before x (preL r)) (before x (preR r)) (before y (preL r)) (before y (preR r)))
       → rel a b ≡ noLater (before x (preL (tree i q c r))) (before x (preR (tree i q c r))) (before y (preL (tree i q c r))) (before y (preR (tree i q c r)))
   unfolding rel
   upright-node (root a) (root b) ihc ihr = sym (no-later (omega arith) (omega arith))
@@ -201,8 +201,8 @@ module _ {x y i q : ℕ} {c r : Forest} where
 
 module _ {x y i q : ℕ} {c r : Forest} where
   inverted-node : (a : Spot x i q c r) (b : Spot y i q c r)
-      → (count x (preL c) ≡ 1 → count y (preL c) ≡ 1 → above c y x ≡ noLater (before x (postL c)) (before x (postR c)) (before y (postL c)) (before y (postR c)))
-      → (count x (preL r) ≡ 1 → count y (preL r) ≡ 1 → above r y x ≡ noLater (before x (postL r)) (before x (postR r)) (before y (postL r)) (before y (postR r)))
+      → (times x (preL c) ≡ 1 → times y (preL c) ≡ 1 → above c y x ≡ noLater (before x (postL c)) (before x (postR c)) (before y (postL c)) (before y (postR c)))
+      → (times x (preL r) ≡ 1 → times y (preL r) ≡ 1 → above r y x ≡ noLater (before x (postL r)) (before x (postR r)) (before y (postL r)) (before y (postR r)))
       → rel b a ≡ noLater (before x (postL (tree i q c r))) (before x (postR (tree i q c r))) (before y (postL (tree i q c r))) (before y (postR (tree i q c r)))
   unfolding rel
   inverted-node (root a) (root b) ihc ihr = sym (no-later (omega arith) (omega arith))
@@ -216,7 +216,7 @@ module _ {x y i q : ℕ} {c r : Forest} where
   inverted-node (beyond a) (beyond b) ihc ihr = ihr (a .in-r) (b .in-r) ∙ later-iff _ _ _ _ _ _ _ _ (omega arith) (omega arith)
 
 -- Theorem 1, upright: x is y or an ancestor of y exactly where it stands no later in both sequences
-upright-order : (t : Forest) (x y : ℕ) → Positive (preL t) → count x (preL t) ≡ 1 → count y (preL t) ≡ 1
+upright-order : (t : Forest) (x y : ℕ) → Positive (preL t) → times x (preL t) ≡ 1 → times y (preL t) ≡ 1
     → above t x y ≡ noLater (before x (preL t)) (before x (preR t)) (before y (preL t)) (before y (preR t))
 upright-order none x y pos hx hy = absurd (omega arith)
 upright-order (tree i q c r) x y pos hx hy =
@@ -226,7 +226,7 @@ upright-order (tree i q c r) x y pos hx hy =
     above-rel a b ∙ upright-node a b (upright-order c x y (omega arith)) (upright-order r x y (omega arith))
 
 -- Theorem 1, inverted: x is y or a descendant of y exactly where it stands no later in both sequences
-inverted-order : (t : Forest) (x y : ℕ) → Positive (preL t) → count x (preL t) ≡ 1 → count y (preL t) ≡ 1
+inverted-order : (t : Forest) (x y : ℕ) → Positive (preL t) → times x (preL t) ≡ 1 → times y (preL t) ≡ 1
     → above t y x ≡ noLater (before x (postL t)) (before x (postR t)) (before y (postL t)) (before y (postR t))
 inverted-order none x y pos hx hy = absurd (omega arith)
 inverted-order (tree i q c r) x y pos hx hy =
@@ -245,7 +245,7 @@ same-right upright t f = same-preR t f
 same-right inverted t f = same-postR t f
 
 -- Theorem 1
-pub tree-order : (d : Direction) (t : Forest) (x y : ℕ) → Positive (preL t) → count x (preL t) ≡ 1 → count y (preL t) ≡ 1
+pub tree-order : (d : Direction) (t : Forest) (x y : ℕ) → Positive (preL t) → times x (preL t) ≡ 1 → times y (preL t) ≡ 1
     → treeOrder d t x y ≡ (leb (before x (left d t)) (before y (left d t)) && leb (before x (right d t)) (before y (right d t)))
 unfolding noLater
 tree-order upright t x y pos hx hy = upright-order t x y pos hx hy

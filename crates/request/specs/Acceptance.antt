@@ -5,7 +5,7 @@ use Prim.Native.Nat.{ℕ, _+_, _-_}
 use lib.Dec.{eqb, leb, ltb}
 use lib.ListN.{length}
 use Rattle.rules.specs.Answers.{Answer, answer, refused}
-use Rattle.request.specs.Entries.{Entry, total, count, has, quotaOf, someEntry}
+use Rattle.request.specs.Entries.{Entry, total, times, has, quotaOf, someEntry}
 use Rattle.request.specs.Request.{Request, entries}
 
 -- 20: id named isn't in the table
@@ -14,11 +14,11 @@ idUnknown groups q = not (has (q .exploded) groups)
 
 -- 21: exploded id isn't exactly one entry
 abbrev pub notOneEntry : Request → Bool
-notOneEntry q = not (eqb (count (q .exploded) (entries q)) 1)
+notOneEntry q = not (eqb (times (q .exploded) (entries q)) 1)
 
 -- 22: another entry's id is in the table or comes twice
 abbrev pub idTaken : List Entry → Request → Bool
-idTaken groups q = someEntry (λ e. not (eqb (e .id) (q .exploded)) && (has (e .id) groups || leb 2 (count (e .id) (entries q)))) (entries q)
+idTaken groups q = someEntry (λ e. not (eqb (e .id) (q .exploded)) && (has (e .id) groups || leb 2 (times (e .id) (entries q)))) (entries q)
 
 -- 23: quotas don't add up
 abbrev pub quotasWrong : List Entry → Request → Bool

@@ -1,6 +1,6 @@
 -- Entries and sums over lists of them. "The same entries" is said by sums: every sum over them agrees.
 use mathlib.Core.Path.{_≡_}
-use mathlib.Core.Bool.{Bool, true, false, _||_}
+use mathlib.Core.Bool.{Bool, true, false, cond, _||_}
 use mathlib.Core.List.{List, [], _∷_}
 use Prim.Native.Nat.{ℕ, _+_, _≤_}
 use lib.Dec.{eqb, leb}
@@ -39,11 +39,11 @@ noQuota e = pick (eqb (e .quota) 0) 1 0
 abbrev pub total : List Entry → ℕ
 total s = sum quota s
 
-abbrev pub count : ℕ → List Entry → ℕ
-count x s = sum (oneAt x) s
+abbrev pub times : ℕ → List Entry → ℕ
+times x s = sum (oneAt x) s
 
 abbrev pub has : ℕ → List Entry → Bool
-has x s = leb 1 (count x s)
+has x s = leb 1 (times x s)
 
 abbrev pub quotaOf : ℕ → List Entry → ℕ
 quotaOf x s = sum (quotaAt x) s
@@ -52,6 +52,11 @@ quotaOf x s = sum (quotaAt x) s
 abbrev pub before : ℕ → List Entry → ℕ
 before x [] = 0
 before x (e ∷ s) = pick (eqb x (e .id)) 0 (e .quota + before x s)
+
+-- some entries without the id u
+abbrev pub without : ℕ → List Entry → List Entry
+without u [] = []
+without u (e ∷ s) = cond (eqb u (e .id)) (without u s) (e ∷ without u s)
 
 -- the test holds of some entry
 unfoldable pub someEntry : (Entry → Bool) → List Entry → Bool
@@ -64,7 +69,7 @@ Same s t = (f : Entry → ℕ) → sum f s ≡ sum f t
 
 -- no id comes twice; every quota is at least 1
 abbrev pub Distinct : List Entry → Type 0
-Distinct s = (x : ℕ) → count x s ≤ 1
+Distinct s = (x : ℕ) → times x s ≤ 1
 
 abbrev pub Positive : List Entry → Type 0
 Positive s = sum noQuota s ≡ 0

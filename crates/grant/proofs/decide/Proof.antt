@@ -50,8 +50,8 @@ returns-5 c = sym (outcome-refused _ _ _ _ _ (c .before .before .before .before 
 enum-known-of : tie.Need-enum-known-of Inv-loop μ-loop
 enum-known-of c = search needs
 
-weigh-requires : tie.Need-weigh-requires Inv-loop μ-loop
-weigh-requires c κs = search needs
+count-if-applies-requires : tie.Need-count-if-applies-requires Inv-loop μ-loop
+count-if-applies-requires c κs = search needs
 
 loop-less : tie.Need-loop-less Inv-loop μ-loop
 loop-less c = let s = grant-stands _ _ (sym (c .before .before .before .before .grant-at .ensures) ∙ ap grantSays (c .before .before .of .given .1)) in omega (arith, s .starts, s .ends)
@@ -60,14 +60,14 @@ loop-again : tie.Need-loop-again Inv-loop μ-loop
 loop-again c =
     let e = sym (c .before .before .before .before .grant-at .ensures) ∙ ap grantSays (c .before .before .of .given .1) in (
       grant-stands _ _ e .ends,
-      rw (c .weigh .ensures) (sym (outcome-more _ _ _ _ _ (c .before .before .before .before .before .before .loop .at) (c .before .before .before .before .before .before .loop .t) (c .before .before .before .before .before .loop-test .taken) e) ∙ c .before .before .before .before .before .before .loop .inv .1),
+      rw (c .count-if-applies .ensures) (sym (outcome-more _ _ _ _ _ (c .before .before .before .before .before .before .loop .at) (c .before .before .before .before .before .before .loop .t) (c .before .before .before .before .before .loop-test .taken) e) ∙ c .before .before .before .before .before .before .loop .inv .1),
     )
 
-told-requires : tie.Need-told-requires Inv-loop μ-loop
-told-requires c κs = search needs
+decision-of-requires : tie.Need-decision-of-requires Inv-loop μ-loop
+decision-of-requires c κs = search needs
 
 returns-6 : tie.Need-returns-6 Inv-loop μ-loop
-returns-6 c = c .told .ensures ∙ sym (outcome-ends _ _ _ _ _ (c .before .before .loop .at) (c .before .before .loop .t) (c .before .loop-test .left)) ∙ c .before .before .loop .inv .1
+returns-6 c = c .decision-of .ensures ∙ sym (outcome-ends _ _ _ _ _ (c .before .before .loop .at) (c .before .before .loop .t) (c .before .loop-test .left)) ∙ c .before .before .loop .inv .1
 
 pub decide-spec : {M : Type 1} → statement M
 decide-spec =
@@ -84,8 +84,8 @@ decide-spec =
     enum-known-why
     returns-5
     enum-known-of
-    weigh-requires
+    count-if-applies-requires
     loop-less
     loop-again
-    told-requires
+    decision-of-requires
     returns-6)

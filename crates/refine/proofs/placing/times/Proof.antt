@@ -5,20 +5,20 @@ use mathlib.Core.Logic.{⊎-elim}
 use Prim.Native.Nat.{ℕ, _+_, _-_, _≤_}
 use native.Mathlib.Omega.{arith}
 use denote.Ref.{now}
-use Rattle.request.specs.Entries.{count}
+use Rattle.request.specs.Entries.{times}
 use Rattle.refine.specs.Work.{listed}
 use Rattle.refine.proofs.PlacingLaws.{listed-all, listed-end, count-here, count-past}
 use Rattle.refine.proofs.placing.times.Statement.{statement}
 use Rattle.refine.proofs.placing.times.Tie as tie
 
 abbrev Inv-loop : tie.InvT-loop
-Inv-loop column n x k₀ i₀ k i = (i ≤ n) × (k ≤ i) × ((values : List ℕ) → k + count x (listed column values i (n - i)) ≡ count x (listed column values 0 n))
+Inv-loop column n x k₀ i₀ k i = (i ≤ n) × (k ≤ i) × ((values : List ℕ) → k + times x (listed column values i (n - i)) ≡ times x (listed column values 0 n))
 
 abbrev μ-loop : tie.MeasureT-loop
 μ-loop column n x k₀ i₀ k i = n - i
 
 loop-holds : tie.Need-loop-holds Inv-loop μ-loop
-loop-holds c = (omega arith, omega arith, λ v. let e = ap (count (c .args .x)) (listed-all (now (c .args .column)) v (c .args .n)) in omega arith)
+loop-holds c = (omega arith, omega arith, λ v. let e = ap (times (c .args .x)) (listed-all (now (c .args .column)) v (c .args .n)) in omega arith)
 
 mul-if1 : tie.Need-mul-if1 Inv-loop μ-loop
 mul-if1 c = omega arith
@@ -47,7 +47,7 @@ loop-again c =
     (c .if1 .came)
 
 returns : tie.Need-returns Inv-loop μ-loop
-returns c = λ v. let inv = c .before .loop .inv in let e = inv .2 v in let f = ap (count (c .before .before .args .x)) (listed-end (now (c .before .before .args .column)) v (c .before .loop .i) (c .before .before .args .n) (c .loop-test .left)) in omega arith
+returns c = λ v. let inv = c .before .loop .inv in let e = inv .2 v in let f = ap (times (c .before .before .args .x)) (listed-end (now (c .before .before .args .column)) v (c .before .loop .i) (c .before .before .args .n) (c .loop-test .left)) in omega arith
 
 pub times-spec : {M : Type 1} → statement M
 times-spec =

@@ -3,7 +3,7 @@
 use mathlib.Core.Path.{sym, ap, _∙_}
 use native.Mathlib.Omega.{arith}
 use borrow.Author.Needs.{needs}
-use Rattle.refine.specs.Says.{takenSays, walkSays}
+use Rattle.refine.specs.Says.{entrySays, walkSays}
 use Rattle.refine.specs.Work.{work, Roomy}
 use Rattle.refine.proofs.ReadingLaws.{Reading, begin, refuse, ended, again, sum-bound, roomy-enter, roomy-kept, inner-found, reach-refused, trees-full, trees-deep, trees-cut, trees-below}
 use Prim.Native.Nat.{ℕ, _<_}
@@ -99,7 +99,7 @@ read-trees-same-length-12 t c = c .before .before .before .before .before .befor
 
 read-trees-returns-3 : (t : ℕ) → read-trees-lts.Need-returns-3 (claims t) (read-trees-at t) read-trees.Post read-trees-Inv-loop read-trees-μ-loop
 read-trees-returns-3 t c = refuse _ _ _ _ _ _ (c .before .before .before .before .before .before .before .loop .inv) _
-    (trees-cut _ _ _ _ _ (c .before .before .before .before .before .before .loop-test .taken) (c .before .before .before .before .before .if1 .left) (c .before .before .before .before .if2 .left) (sym (c .before .before .before .entry-at .ensures) ∙ ap takenSays (c .before .why .given .1)))
+    (trees-cut _ _ _ _ _ (c .before .before .before .before .before .before .loop-test .taken) (c .before .before .before .before .before .if1 .left) (c .before .before .before .before .if2 .left) (sym (c .before .before .before .entry-at .ensures) ∙ ap entrySays (c .before .why .given .1)))
 
 read-trees-enum-known-id : (t : ℕ) → read-trees-lts.Need-enum-known-id (claims t) (read-trees-at t) read-trees.Post read-trees-Inv-loop read-trees-μ-loop
 read-trees-enum-known-id t c = search needs
@@ -142,7 +142,7 @@ read-trees-same-length-16 t c = roomy t (c .before .before .before .before .befo
 
 read-trees-returns-4 : (t : ℕ) → read-trees-lts.Need-returns-4 (claims t) (read-trees-at t) read-trees.Post read-trees-Inv-loop read-trees-μ-loop
 read-trees-returns-4 t c = refuse _ _ _ _ _ _ (c .before .before .before .before .before .before .before .before .before .before .before .before .before .before .before .before .before .before .before .before .before .before .before .loop .inv) _
-    (trees-below _ _ _ _ _ (c .before .before .before .before .before .before .before .before .before .before .before .before .before .before .before .before .before .before .before .before .before .before .loop-test .taken) (c .before .before .before .before .before .before .before .before .before .before .before .before .before .before .before .before .before .before .before .before .before .if1 .left) (c .before .before .before .before .before .before .before .before .before .before .before .before .before .before .before .before .before .before .before .before .if2 .left) (sym (c .before .before .before .before .before .before .before .before .before .before .before .before .before .before .before .before .before .before .before .entry-at .ensures) ∙ ap takenSays (c .before .before .before .before .before .before .before .before .before .before .before .before .before .before .before .before .before .id .given .1))
+    (trees-below _ _ _ _ _ (c .before .before .before .before .before .before .before .before .before .before .before .before .before .before .before .before .before .before .before .before .before .before .loop-test .taken) (c .before .before .before .before .before .before .before .before .before .before .before .before .before .before .before .before .before .before .before .before .before .if1 .left) (c .before .before .before .before .before .before .before .before .before .before .before .before .before .before .before .before .before .before .before .before .if2 .left) (sym (c .before .before .before .before .before .before .before .before .before .before .before .before .before .before .before .before .before .before .before .entry-at .ensures) ∙ ap entrySays (c .before .before .before .before .before .before .before .before .before .before .before .before .before .before .before .before .before .id .given .1))
     (reach-refused _ (sym (ap walkSays (c .before .why2 .given .1)) ∙ c .before .before .before .before .before .before .before .before .before .before .before .read-trees .ensures .0)))
 
 read-trees-enum-known-p : (t : ℕ) → read-trees-lts.Need-enum-known-p (claims t) (read-trees-at t) read-trees.Post read-trees-Inv-loop read-trees-μ-loop
@@ -180,7 +180,7 @@ read-trees-loop-less t c = omega (arith, c .before .before .before .before .befo
 read-trees-loop-again : (t : ℕ) → read-trees-lts.Need-loop-again (claims t) (read-trees-at t) read-trees.Post read-trees-Inv-loop read-trees-μ-loop
 read-trees-loop-again t c = let f = inner-found _ _ _ _ _ _ _ _ _ _ (c .before .before .before .before .before .before .before .before .before .before .before .before .before .before .before .before .before .before .before .before .before .if1 .left) (sym (ap walkSays (c .before .p .given .1)) ∙ c .before .before .before .before .before .before .before .before .before .before .before .read-trees .ensures .0) (c .before .before .before .before .before .before .before .before .before .before .before .read-trees .ensures .1) in
     again _ _ _ _ _ _ (c .before .before .before .before .before .before .before .before .before .before .before .before .before .before .before .before .before .before .before .before .before .before .before .loop .inv) (c .before .before .before .before .before .before .before .before .before .before .before .before .before .before .before .before .before .before .before .before .before .before .loop-test .taken) (c .before .before .before .before .before .before .before .before .before .before .before .before .before .before .before .before .before .before .before .before .before .if1 .left) (c .before .before .before .before .before .before .before .before .before .before .before .before .before .before .before .before .before .before .before .before .if2 .left)
-    (sym (ap takenSays (c .before .before .before .before .before .before .before .before .before .before .before .before .before .before .before .before .before .id .given .1)) ∙ c .before .before .before .before .before .before .before .before .before .before .before .before .before .before .before .before .before .before .before .entry-at .ensures) (omega (arith, c .before .before .before .before .before .before .before .before .before .before .before .before .before .before .before .before .known-told2 .given)) f (roomy t (c .before .before .before .before .before .before .before .before .before .before .before))
+    (sym (ap entrySays (c .before .before .before .before .before .before .before .before .before .before .before .before .before .before .before .before .before .id .given .1)) ∙ c .before .before .before .before .before .before .before .before .before .before .before .before .before .before .before .before .before .before .before .entry-at .ensures) (omega (arith, c .before .before .before .before .before .before .before .before .before .before .before .before .before .before .before .before .known-told2 .given)) f (roomy t (c .before .before .before .before .before .before .before .before .before .before .before))
 
 read-trees-same-length-17 : (t : ℕ) → read-trees-lts.Need-same-length-17 (claims t) (read-trees-at t) read-trees.Post read-trees-Inv-loop read-trees-μ-loop
 read-trees-same-length-17 t c = c .before .loop .inv .roomy .in-ids ∙ sym (c .before .before .before .before .before .before .before .pre .1 .0 .in-ids)

@@ -3,8 +3,8 @@ use mathlib.Core.Path.{ap, sym, _∙_}
 use denote.Ref.{now}
 use Rattle.request.specs.Reading.{requestOf}
 use Rattle.refine.specs.Refine.{refined}
-use Rattle.refine.specs.Says.{heardSays}
-use Rattle.refine.specs.Work.{Work, work, Told}
+use Rattle.refine.specs.Says.{requestSays}
+use Rattle.refine.specs.Work.{Work, work, InWork}
 use Rattle.refine.proofs.ReadingLaws.{Understood, understood, not-understood}
 use borrow.Author.Needs.{needs}
 use Rattle.refine.proofs.refining.refine_sound.Statement.{statement}
@@ -16,10 +16,10 @@ held c = let l = c .before .before .before .before .before .before .before .read
 
 request-at : (c : tie.After-known-told2)
     → Understood (requestOf (now (c .before .before .before .before .before .before .before .before .before .before .before .before .before .before .before .before .before .before .before .before .before .before .before .args .request))) (held c) (c .before .exploded .given .0 .0) (c .before .exploded .given .0 .1 .0) (c .before .exploded .given .0 .1 .1 .0) (c .before .exploded .given .0 .1 .1 .1 .0)
-request-at c = understood (requestOf (now (c .before .before .before .before .before .before .before .before .before .before .before .before .before .before .before .before .before .before .before .before .before .before .before .args .request))) (held c) (sym (ap heardSays (c .before .exploded .given .1)) ∙ c .before .before .before .before .before .before .before .read-request .ensures .0) (c .before .before .before .before .before .before .before .read-request .ensures .1)
+request-at c = understood (requestOf (now (c .before .before .before .before .before .before .before .before .before .before .before .before .before .before .before .before .before .before .before .before .before .before .before .args .request))) (held c) (sym (ap requestSays (c .before .exploded .given .1)) ∙ c .before .before .before .before .before .before .before .read-request .ensures .0) (c .before .before .before .before .before .before .before .read-request .ensures .1)
 
 told-at : (c : tie.After-known-told2)
-    → Told (held c) (c .before .exploded .given .0 .0) (c .before .exploded .given .0 .1 .0) (c .before .exploded .given .0 .1 .1 .0) (c .before .exploded .given .0 .1 .1 .1 .0) (request-at c .request)
+    → InWork (held c) (c .before .exploded .given .0 .0) (c .before .exploded .given .0 .1 .0) (c .before .exploded .given .0 .1 .1 .0) (c .before .exploded .given .0 .1 .1 .1 .0) (request-at c .request)
 told-at c =
     let u = request-at c in
     let k = c .before .before .before .before .before .before .before .read-request .kept .1 in
@@ -105,7 +105,7 @@ returns : tie.Need-returns
 unfolding refined
 returns c =
     let s = c .before .before .before .before .before .before .before .before .before .before .before .before .before .before .before .before .before .before .before .before .before .before .before in
-    let e = not-understood (requestOf (now (s .args .request))) (sym (ap heardSays (c .before .why .given .1)) ∙ c .before .before .before .before .before .before .before .read-request .ensures .0) in
+    let e = not-understood (requestOf (now (s .args .request))) (sym (ap requestSays (c .before .why .given .1)) ∙ c .before .before .before .before .before .before .before .read-request .ensures .0) in
     (rw (s .pre, e), rw (s .pre, e))
 
 same-length : tie.Need-same-length

@@ -7,7 +7,7 @@ use native.Mathlib.Omega.{arith}
 use denote.Ref.{now}
 use lib.Dec.{eqb, leb}
 use Rattle.request.specs.Entries.{Entry, has, someEntry}
-use Rattle.request.specs.Entries.{count as timesOf}
+use Rattle.request.specs.Entries.{times as timesOf}
 use Rattle.refine.specs.Work.{listed}
 use Rattle.refine.proofs.PlacingLaws.{listed-all, some-here, some-past, some-none}
 use Rattle.refine.proofs.refining.some_id_taken.Statement.{statement}

@@ -9,13 +9,13 @@ use denote.Ref.{now}
 use Rattle.rules.specs.Answers.{answer}
 use Rattle.request.specs.Acceptance.{accepted}
 use Rattle.boxes.specs.declared.Box.{Box}
-use Rattle.request.specs.Entries.{count}
+use Rattle.request.specs.Entries.{times}
 use Rattle.request.specs.Numbering.{lefts, rights}
 use Rattle.request.specs.Request.{Request}
 use Rattle.table.specs.Columns.{Columns, columns, rows}
 use Rattle.table.proofs.Passing.{Passed, check-passed}
 use Rattle.refine.specs.Refine.{groupsOf}
-use Rattle.refine.specs.Work.{Work, work, Told, Boxed, listed, directionBy}
+use Rattle.refine.specs.Work.{Work, work, InWork, Boxed, listed, directionBy}
 use Rattle.refine.proofs.Written.{boxed, room, entries-count, once-listed, columns-after}
 use borrow.Author.Needs.{needs}
 use Rattle.refine.proofs.refining.write_entries.Statement.{statement}
@@ -31,7 +31,7 @@ good-at : (c : tie.Start) → Passed (cols c) (c .args .count)
 good-at c = check-passed (cols c) (c .args .count) (c .pre .1 .0) .0
 
 -- the request in the exploded group's box
-boxed-at : (c : tie.Start) (a : Request) (s : ℕ) → Told (held c) (c .args .exploded) (c .args .upright) (c .args .entries) s a
+boxed-at : (c : tie.Start) (a : Request) (s : ℕ) → InWork (held c) (c .args .exploded) (c .args .upright) (c .args .entries) s a
     → accepted (length (now (c .args .id))) (groupsOf (rows (cols c) (c .args .count))) a ≡ answer a
     → Boxed (held c) 0 (c .args .entries) (getD (now (c .args .l)) (c .args .own) 0) (getD (now (c .args .r)) (c .args .own) 0) (getD (now (c .args .q)) (c .args .own) 0)
     (take (c .args .entries) (now (c .args .new-l))) (take (c .args .entries) (now (c .args .new-r))) (a .trees)
@@ -44,7 +44,7 @@ boxed-at c a s told ok =
 
 -- each column has room for the entries' values
 asks : (c : tie.Start) (col v : List ℕ) → length col ≡ length (now (c .args .id))
-    → (c .args .own < c .args .count) × (c .args .count + c .args .entries ≤ length col + count (c .args .exploded) (listed (now (c .args .ids)) v 0 (c .args .entries)))
+    → (c .args .own < c .args .count) × (c .args .count + c .args .entries ≤ length col + times (c .args .exploded) (listed (now (c .args .ids)) v 0 (c .args .entries)))
 asks c col v e =
     let t = c .pre .1 .1 .1 in
     let p = c .pre .1 .1 .0 in

@@ -1,11 +1,11 @@
--- `grant::weigh` meets its contract.
+-- `grant::count_if_applies` meets its contract.
 use mathlib.Core.Path.{sym, _∙_}
 use borrow.Author.Tests.{eq-eqb, ne-eqb}
 use Rattle.grant.specs.Decision.{appliesTo}
-use Rattle.grant.specs.Tally.{weigh}
+use Rattle.grant.specs.Tally.{countIfApplies}
 use borrow.Author.Needs.{needs}
-use Rattle.grant.proofs.weigh.Statement.{statement}
-use Rattle.grant.proofs.weigh.Tie as tie
+use Rattle.grant.proofs.count_if_applies.Statement.{statement}
+use Rattle.grant.proofs.count_if_applies.Tie as tie
 
 covered-requires : tie.Need-covered-requires
 covered-requires c κs = search needs
@@ -14,16 +14,16 @@ count-in-requires : tie.Need-count-in-requires
 count-in-requires c κs = search needs
 
 returns : tie.Need-returns
-unfolding weigh appliesTo
+unfolding countIfApplies appliesTo
 returns c = rw (eq-eqb _ _ (c .before .before .before .if1 .taken), sym (c .before .before .covered .ensures) ∙ c .before .if2 .taken) (c .count-in .ensures)
 
 returns-2 : tie.Need-returns-2
-unfolding weigh appliesTo
+unfolding countIfApplies appliesTo
 returns-2 c = rw (eq-eqb _ _ (c .before .before .if1 .taken), sym (c .before .covered .ensures) ∙ c .if2 .left)
 
 returns-3 : tie.Need-returns-3
-unfolding weigh appliesTo
+unfolding countIfApplies appliesTo
 returns-3 c = rw (ne-eqb _ _ (c .if1 .left))
 
-pub weigh-spec : {M : Type 1} → statement M
-weigh-spec = tie.close (tie.spec covered-requires count-in-requires returns returns-2 returns-3)
+pub count-if-applies-spec : {M : Type 1} → statement M
+count-if-applies-spec = tie.close (tie.spec covered-requires count-in-requires returns returns-2 returns-3)
