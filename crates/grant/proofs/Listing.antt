@@ -4,6 +4,7 @@ use mathlib.Core.Bool.{false}
 use mathlib.Core.List.{List, [], _∷_}
 use Prim.Native.Nat.{ℕ, zero, suc, _+_, _-_, _<_, _≤_}
 use native.Mathlib.Omega.{arith}
+use native.Mathlib.Nat.{sub-zero}
 use lib.ListN.{length}
 use borrow.Author.Tests.{le-leb, lt-leb}
 use Rattle.rules.specs.Answers.{Answer, answer, then}
@@ -86,7 +87,7 @@ grants-done bytes at h = from-end (length bytes - at) bytes at h
 
 pub grants-all : (bytes : List ℕ) → grantsAt bytes 0 ≡ grantsOf bytes
 unfolding grantsAt grantsOf
-grants-all bytes = let k : length bytes - 0 ≡ length bytes = omega arith in ap (λ (m : ℕ). grantsFrom m bytes 0) k
+grants-all bytes = rw sub-zero
 
 from-good : (n : ℕ) (bytes : List ℕ) (at : ℕ) {gs : List Grant} → grantsFrom n bytes at ≡ answer gs → someBad gs ≡ false
 unfolding grantsFrom someBad

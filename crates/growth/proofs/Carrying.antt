@@ -107,7 +107,7 @@ module _ {log : List ℕ} {from : ℕ} {c₀ : Columns} {text₀ : List ℕ} whe
         → {d : Columns} {next : List ℕ} {n m : ℕ} (a : Answer ℕ) → a ≡ counted (refined c count (bytesIn log part)) → d ≡ afterwards (refined c count (bytesIn log part)) c → Alike c d
         → n ≡ p + length (lineText a) → next ≡ after text p (lineText a) → m ≡ countAfter a count
         → Going log from c₀ text₀ d next (part .end) m n
-    again zero w k part h e a ea ed al en ex em = let z : ⊥ = omega arith in absurd z
+    again zero w k part h e a ea ed al en ex em = absurd (omega arith)
     again (suc k) w l part h e {d} {next} {n} {m} a ea ed al en ex em =
         let f = refined c count (bytesIn log part) in
         let i = part-in log at part e in
@@ -162,5 +162,5 @@ module _ {log : List ℕ} {from : ℕ} {c₀ : Columns} {text₀ : List ℕ} whe
         ends (go (g .most) (g .enough)) en (line-wrote (lineText (refused k)) h l ex) (omega (arith, g .room))
       where
         go : (m : ℕ) → length log ≤ at + m → requestsFrom m log at c count ≡ grown c count (lineText (refused k))
-        go zero l = let z : ⊥ = omega arith in absurd z
+        go zero l = absurd (omega arith)
         go (suc m) l = bad log at c count m h e

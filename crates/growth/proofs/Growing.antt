@@ -17,7 +17,7 @@ use Rattle.growth.specs.Says.{Fitting, Carried}
 use Rattle.growth.specs.declared.Reached.{Reached}
 use Rattle.growth.proofs.Printing.{rows-most, table-count}
 use Rattle.growth.proofs.Reading.{begun-in}
-use Rattle.growth.proofs.Carrying.{Alike}
+use Rattle.growth.proofs.Carrying.{Alike, fitting-on}
 
 -- ## What the fresh pair says
 
@@ -29,13 +29,7 @@ pub begun-fits : (c : Columns) (log : List ℕ) {d : Columns} {next : ℕ} → b
 begun-fits c log e a =
     let b = begun-yes (begun c log) e in
     let l = begun-in c log (b .0) (b .1) .0 in
-    record {
-      in-l = omega (arith, l .in-l, a .in-l, a .in-id);
-      in-r = omega (arith, l .in-r, a .in-r, a .in-id);
-      in-q = omega (arith, l .in-q, a .in-q, a .in-id);
-      most = omega (arith, l .most, a .in-id);
-      within = omega (arith, l .some, a .in-id);
-    }
+    fitting-on (record { in-l = l .in-l; in-r = l .in-r; in-q = l .in-q; most = l .most; within = l .some }) a (l .some)
 
 -- the requests start within the log
 pub begun-next : (c : Columns) (log : List ℕ) {next : ℕ} → begunAt (begun c log) ≡ answer next → next ≤ length log

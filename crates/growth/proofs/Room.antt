@@ -1,22 +1,21 @@
 -- `growRoom` is enough: the text of a log has at most 14 bytes for each byte of the log, and 16384 for the table.
 use mathlib.Core.Path.{_≡_, refl, ap, _∙_}
-use mathlib.Core.Bool.{Bool, true, false, cond}
 use mathlib.Core.List.{List, [], _++_}
-use Prim.Native.Nat.{ℕ, zero, suc, _+_, _*_, _-_, _<_, _≤_}
+use Prim.Native.Nat.{ℕ, zero, suc, _*_, _-_, _≤_}
 use native.Mathlib.Omega.{arith}
 use lib.Dec.{leb}
 use lib.ListN.{length, length-append}
 use borrow.Author.Tests.{leb-true}
 use Rattle.rules.specs.Answers.{Answer, answer, refused}
 use Rattle.rules.specs.Limits.{mostRows}
-use Rattle.rules.proofs.Answers.{same-answer, never-refused}
+use Rattle.rules.proofs.Answers.{same-answer, by-answer, wanted}
 use Rattle.rules.proofs.Cases.{by-lt}
 use Rattle.table.specs.Columns.{Row, Columns, rows, put, counted, afterwards}
 use Rattle.table.proofs.Rows.{rows-length}
 use Rattle.refine.specs.Refine.{refined}
 use Rattle.refine.proofs.Held.{put-length}
 use Rattle.growth.specs.Lines.{lineText, tableText}
-use Rattle.growth.specs.Growth.{Part, partAt, bytesIn, Begun, begun, Growth, grown, countAfter, requestsFrom, growText, growRoom, growAnswer, lineRoom, tableRoom}
+use Rattle.growth.specs.Growth.{partAt, bytesIn, begun, Growth, grown, countAfter, requestsFrom, growText, growRoom, growAnswer, lineRoom, tableRoom}
 use Rattle.growth.proofs.Printing.{line-most, rows-most, table-count}
 use Rattle.growth.proofs.Reading.{part-in, refined-fits, refined-within, begun-in}
 use Rattle.growth.proofs.Carrying.{stop, bad, goes-on, count-within}
@@ -55,42 +54,36 @@ requests-few : (k : ℕ) (log : List ℕ) (at : ℕ) (c : Columns) (count : ℕ)
 requests-few zero log at c count s = few-is (zero-is log at c count) (record { lines = omega arith; rows = omega (arith, s .most, s .within) })
 requests-few (suc k) log at c count s =
     by-lt at (length log)
-    (λ h. go (λ p. requests-few k log (p .end) (afterwards (refined c count (bytesIn log p)) c) (countAfter (counted (refined c count (bytesIn log p))) count) (sized-after c count (bytesIn log p) s)) h (partAt log at) refl)
+    (λ h. by-answer (partAt log at)
+    (λ p e.
+    let f = refined c count (bytesIn log p) in
+    let i = part-in log at p e in
+    let r = requests-few k log (p .end) (afterwards f c) (countAfter (counted f) count) (sized-after c count (bytesIn log p) s) in
+    let n = length-append (lineText (counted f)) (requestsFrom k log (p .end) (afterwards f c) (countAfter (counted f) count) .text) in
+    few-is (goes-on log at c count k h e) (record { lines = omega (arith, i, n, r .lines, line-most (counted f)); rows = r .rows }))
+    (λ n e. few-is (bad log at c count k h e) (record { lines = omega (arith, line-most (refused n)); rows = omega (arith, s .most, s .within) })))
     (λ h. few-is (stop log at c count (suc k) h) (record { lines = omega arith; rows = omega (arith, s .most, s .within) }))
-  where
-    go : ((p : Part) → Few (requestsFrom k log (p .end) (afterwards (refined c count (bytesIn log p)) c) (countAfter (counted (refined c count (bytesIn log p))) count)) (length log - p .end))
-        → at < length log → (a : Answer Part) → partAt log at ≡ a → Few (requestsFrom (suc k) log at c count) (length log - at)
-    go ih h (refused n) e = few-is (bad log at c count k h e) (record { lines = omega (arith, line-most (refused n)); rows = omega (arith, s .most, s .within) })
-    go ih h (answer p) e =
-        let f = refined c count (bytesIn log p) in
-        let i = part-in log at p e in
-        let r = ih p in
-        let n = length-append (lineText (counted f)) (requestsFrom k log (p .end) (afterwards f c) (countAfter (counted f) count) .text) in
-        few-is (goes-on log at c count k h e) (record { lines = omega (arith, i, n, r .lines, line-most (counted f)); rows = r .rows })
 
 -- the law
 pub grow-room : (c : Columns) (log : List ℕ) → length (growText c log) ≤ growRoom (length log)
 unfolding growRoom
-grow-room c log = go (begun c log) refl
-  where
-    go : (b : Answer Begun) → begun c log ≡ b → length (growText c log) ≤ lineRoom * length log + tableRoom
-    go (refused n) e = omega (arith, line-most (refused n), ap (λ (g : Growth). length (g .text)) (growth-bad c log e))
-    go (answer b) e =
-        let i = begun-in c log b e in
-        let l = i .0 in
-        let d = put (b .rows) c in
-        let g = requestsFrom (length log) log (b .next) d (length (b .rows)) in
-        let w = put-length (b .rows) c (omega (arith, i .1, l .some)) in
-        let f = requests-few (length log) log (b .next) d (length (b .rows)) (record { most = omega (arith, w, l .most); within = omega (arith, w, i .1, l .some) }) in
-        let t = rows (g .table) (g .count) in
-        let x : growText c log ≡ g .text ++ tableText t = ap (λ (y : Growth). y .text) (growth-good c log e) ∙ listed-text g in
-        omega (arith, ap length x, length-append (g .text) (tableText t), table-count t, rows-most t, rows-length (g .table) 0 (g .count), f .lines, f .rows)
+grow-room c log =
+    by-answer (begun c log)
+    (λ b e.
+    let i = begun-in c log b e in
+    let l = i .0 in
+    let d = put (b .rows) c in
+    let g = requestsFrom (length log) log (b .next) d (length (b .rows)) in
+    let w = put-length (b .rows) c (omega (arith, i .1, l .some)) in
+    let f = requests-few (length log) log (b .next) d (length (b .rows)) (record { most = omega (arith, w, l .most); within = omega (arith, w, i .1, l .some) }) in
+    let t = rows (g .table) (g .count) in
+    let x : growText c log ≡ g .text ++ tableText t = ap (λ (y : Growth). y .text) (growth-good c log e) ∙ listed-text g in
+    omega (arith, ap length x, length-append (g .text) (tableText t), table-count t, rows-most t, rows-length (g .table) 0 (g .count), f .lines, f .rows))
+    (λ n e. omega (arith, line-most (refused n), ap (λ (g : Growth). length (g .text)) (growth-bad c log e)))
 
 -- a text that was written lies within its buffer
 pub grow-within : (c : Columns) (log buffer : List ℕ) {n : ℕ} → growAnswer c log buffer ≡ answer n → n ≤ length buffer
 unfolding growAnswer
-grow-within c log buffer {n} e = go (leb (growRoom (length log)) (length buffer)) refl e
-  where
-    go : (b : Bool) → leb (growRoom (length log)) (length buffer) ≡ b → cond b (answer (length (growText c log))) (refused 30) ≡ answer n → n ≤ length buffer
-    go true h e = omega (arith, leb-true (growRoom (length log)) (length buffer) h, grow-room c log, same-answer e)
-    go false h e = never-refused e
+grow-within c log buffer e =
+    let w = wanted (leb (growRoom (length log)) (length buffer)) _ _ e in
+    omega (arith, leb-true (growRoom (length log)) (length buffer) (w .0), grow-room c log, same-answer (w .1))

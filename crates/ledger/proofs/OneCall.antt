@@ -8,6 +8,7 @@ use native.Mathlib.Omega.{arith}
 use lib.ListN.{length}
 use borrow.Author.Tests.{eqb-false, ne-eqb, le-ltb}
 use Rattle.rules.specs.Answers.{Answer, answer, refused, then}
+use Rattle.rules.proofs.Answers.{by-answer}
 use Rattle.request.specs.Entries.{times}
 use Rattle.request.specs.Request.{Request}
 use Rattle.request.specs.Reading.{requestOf}
@@ -108,11 +109,7 @@ unfolding engineReply ledgerReply
 order-says s g m a b = ap orderSays (orders-alike m a b)
 
 pub says-alike : (s : Table) (g : Ledger) → Meets s g → (k : Call) → engineReply s k ≡ ledgerReply g k
-says-alike s g m (refine bytes) = go (acceptedBy g bytes) refl
-  where
-    go : (a : Answer Request) → acceptedBy g bytes ≡ a → engineReply s (refine bytes) ≡ ledgerReply g (refine bytes)
-    go (answer q) e = says-accepted m bytes e
-    go (refused n) e = says-refused m bytes e
+says-alike s g m (refine bytes) = by-answer (acceptedBy g bytes) (λ q e. says-accepted m bytes e) (λ n e. says-refused m bytes e)
 says-alike s g m (order a b) = order-says s g m a b
 
 -- a group that the call does not explode is still there, with its numbers
@@ -122,11 +119,10 @@ pub record Unmoved (x : ℕ) (s s′ : Table) (g′ : Ledger) : Type 0 where
   pub r-stays : rOf x (rowsIn s′) ≡ rOf x (rowsIn s)
 
 meets-refine : (s : Table) (g : Ledger) → Meets s g → (bytes : List ℕ) → Meets (engineAfter s (refine bytes)) (ledgerAfter g (refine bytes))
-meets-refine s g m bytes = go (acceptedBy g bytes) refl
-  where
-    go : (a : Answer Request) → acceptedBy g bytes ≡ a → Meets (engineAfter s (refine bytes)) (ledgerAfter g (refine bytes))
-    go (answer q) e = let a = after-accepted m bytes e in rw (a .0, a .1) (meets-new m bytes e)
-    go (refused n) e = let a = after-refused m bytes e in rw (a .0, a .1) m
+meets-refine s g m bytes =
+    by-answer (acceptedBy g bytes)
+    (λ q e. let a = after-accepted m bytes e in rw (a .0, a .1) (meets-new m bytes e))
+    (λ n e. let a = after-refused m bytes e in rw (a .0, a .1) m)
 
 pub meets-after : (s : Table) (g : Ledger) → Meets s g → (k : Call) → Meets (engineAfter s k) (ledgerAfter g k)
 unfolding engineAfter ledgerAfter
@@ -143,11 +139,10 @@ unmoved-new s g m bytes {q} e x n k =
 stays-refine : (s : Table) (g : Ledger) → Meets s g → (bytes : List ℕ) (x : ℕ) → 1 ≤ times x (g .groups) → explodes x g (refine bytes) ≡ false
     → Unmoved x s (engineAfter s (refine bytes)) (ledgerAfter g (refine bytes))
 unfolding explodes
-stays-refine s g m bytes x h quiet = go (acceptedBy g bytes) refl
-  where
-    go : (a : Answer Request) → acceptedBy g bytes ≡ a → Unmoved x s (engineAfter s (refine bytes)) (ledgerAfter g (refine bytes))
-    go (answer q) e = let a = after-accepted m bytes e in rw (a .0, a .1) (unmoved-new s g m bytes e x (eqb-false x (q .exploded) (rw e at quiet)) h)
-    go (refused n) e = let a = after-refused m bytes e in rw (a .0, a .1) (record { there = h; l-stays = refl; r-stays = refl })
+stays-refine s g m bytes x h quiet =
+    by-answer (acceptedBy g bytes)
+    (λ q e. let a = after-accepted m bytes e in rw (a .0, a .1) (unmoved-new s g m bytes e x (eqb-false x (q .exploded) (rw e at quiet)) h))
+    (λ n e. let a = after-refused m bytes e in rw (a .0, a .1) (record { there = h; l-stays = refl; r-stays = refl }))
 
 pub stays : (s : Table) (g : Ledger) → Meets s g → (k : Call) (x : ℕ) → 1 ≤ times x (g .groups) → explodes x g k ≡ false
     → Unmoved x s (engineAfter s k) (ledgerAfter g k)

@@ -51,11 +51,11 @@ record Inner (more unit : ℕ) : Type 0 where
   low : unit ≤ 2097152
 
 inner : (more unit : ℕ) → more ≤ 3 → unit ≡ unitOf more → unit < 268435456 → Inner more unit
-inner zero unit m e h = let z : ⊥ = omega arith in absurd z
+inner zero unit m e h = absurd (omega arith)
 inner (suc zero) unit m e h = record { rest = 0; one-more = refl; counts = omega arith; low = omega arith }
 inner (suc (suc zero)) unit m e h = record { rest = 1; one-more = refl; counts = omega arith; low = omega arith }
 inner (suc (suc (suc zero))) unit m e h = record { rest = 2; one-more = refl; counts = omega arith; low = omega arith }
-inner (suc (suc (suc (suc k)))) unit m e h = let z : ⊥ = omega arith in absurd z
+inner (suc (suc (suc (suc k)))) unit m e h = absurd (omega arith)
 
 outer : (more unit : ℕ) → more ≤ 3 → unit ≡ unitOf more → 268435456 ≤ unit → more ≡ 0
 outer zero unit m e h = refl

@@ -33,7 +33,7 @@ module _ {buffer₀ : List ℕ} {at value : ℕ} where
   goes : (buffer : List ℕ) (i left k : ℕ) → left < cap k → length buffer ≡ length buffer₀ → i + length (groupsOf k left) ≡ at + length (bytesOf value)
       → at + length (bytesOf value) ≤ length buffer₀ → sets buffer i (groupsOf k left) ≡ sets buffer₀ at (bytesOf value) → 128 ≤ left
       → Writes buffer₀ at value (set buffer i (left % 128 + 128)) (i + 1) (left / 128)
-  goes buffer i left zero f s t r d h = let z : ⊥ = omega arith in absurd z
+  goes buffer i left zero f s t r d h = absurd (omega arith)
   goes buffer i left (suc k) f s t r d h =
       let b = more-groups k left h in
       let t′ = rw b at t in

@@ -5,6 +5,7 @@ use mathlib.Core.List.{List, [], _∷_, _++_, map, map-append}
 use Prim.Native.Nat.{ℕ, zero, suc, _+_}
 use native.Mathlib.Omega.{arith}
 use native.Mathlib.Numerals.{add-one}
+use native.Mathlib.Nat.{add-zero, zero-add, add-suc, suc-add}
 use lib.ListN.{length, getD}
 use lib.Seq.{getD-append-seam, append-snoc}
 use Rattle.request.specs.Entries.{Entry, entry, noQuota, pick, Positive}
@@ -32,15 +33,13 @@ values-left values at [] t h = tt
 values-left values at (v ∷ s) t h = (h .0, values-left values (suc at) s t (h .1))
 
 values-right : (values : List ℕ) (at : ℕ) (s t : List ℕ) → Values values at (s ++ t) → Values values (at + length s) t
-values-right values at [] t h = let e : at + 0 ≡ at = omega arith in rw e h
-values-right values at (v ∷ s) t h = let e : at + suc (length s) ≡ suc at + length s = omega arith in rw e (values-right values (suc at) s t (h .1))
+values-right values at [] t h = rw add-zero h
+values-right values at (v ∷ s) t h = rw (add-suc, ← suc-add) (values-right values (suc at) s t (h .1))
 
 listed-append : (ids values : List ℕ) (at m n : ℕ) → listed ids values at (m + n) ≡ listed ids values at m ++ listed ids values (at + m) n
-listed-append ids values at zero n = let e : 0 + n ≡ n = omega arith in let f : at + 0 ≡ at = omega arith in rw (e, f)
+listed-append ids values at zero n = rw (zero-add, add-zero)
 listed-append ids values at (suc m) n =
-    let e : suc m + n ≡ suc (m + n) = omega arith in
-    let f : suc at + m ≡ at + suc m = omega arith in
-    rw (e, ← f) (ap (λ t. entry (getD ids at 0) (getD values at 0) ∷ t) (listed-append ids values (suc at) m n))
+    rw (suc-add m n, add-suc at m, ← suc-add at m) (ap (λ t. entry (getD ids at 0) (getD values at 0) ∷ t) (listed-append ids values (suc at) m n))
 
 stored-listed : (w : Work) (values : List ℕ) (f : Entry → ℕ) (at : ℕ) (t : Forest) → Stored w at t → Values values at (map f (preL t))
     → listed (w .ids) values at (size t) ≡ map (λ e. entry (e .id) (f e)) (preL t)
@@ -73,8 +72,8 @@ stored-values of f w e at (tree i q c r) s =
     )
   where
     values-join : (values : List ℕ) (at : ℕ) (s t : List ℕ) → Values values at s → Values values (at + length s) t → Values values at (s ++ t)
-    values-join values at [] t a b = let e : at + 0 ≡ at = omega arith in rw e at b
-    values-join values at (v ∷ s) t a b = let e : at + suc (length s) ≡ suc at + length s = omega arith in (a .0, values-join values (suc at) s t (a .1) (rw e at b))
+    values-join values at [] t a b = rw add-zero at b
+    values-join values at (v ∷ s) t a b = (a .0, values-join values (suc at) s t (a .1) (rw (add-suc, ← suc-add) at b))
 
 pub quotas-stand : (w : Work) (at : ℕ) (t : Forest) → Stored w at t → Values (w .quotas) at (map (λ e. e .quota) (preL t))
 quotas-stand w at t s = stored-values (λ w. w .quotas) (λ e. e .quota) w (λ at i q c r s. s .0 .quota-is) at t s

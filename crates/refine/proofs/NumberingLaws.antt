@@ -66,7 +66,7 @@ rights-length false b t = downR-length b t
 
 size-zero : (t : Forest) → size t ≡ 0 → t ≡ none
 size-zero none e = refl
-size-zero (tree i q c f) e = let z : ⊥ = omega arith in absurd z
+size-zero (tree i q c f) e = absurd (omega arith)
 
 -- from entry p on, the trees that are left are to be numbered in a box (bl, br, b); ls and rs are what the whole is to be
 pub record Numbers (w : Work) (up : Bool) (from to : ℕ) (ls rs : List ℕ) (p bl br b : ℕ) (l r : List ℕ) : Type 0 where
@@ -107,7 +107,7 @@ module _ {w : Work} {up : Bool} {from to : ℕ} {ls rs : List ℕ} {p bl br b : 
   open-tree : (t : Forest) → Stored w p t → to ≡ p + size t → whole t ≡ b → bl + b ≤ 4294967296 → br + b ≤ 4294967296 → from ≤ p → length l ≡ to - from
       → length r ≡ to - from → take (p - from) l ++ lefts (directionBy up) bl t ≡ ls → take (p - from) r ++ rights (directionBy up) br t ≡ rs → p < to
       → Here w up from to ls rs p bl br b l r
-  open-tree none s e f le re bh ll rl lw rw′ h = let z : ⊥ = omega arith in absurd z
+  open-tree none s e f le re bh ll rl lw rw′ h = absurd (omega arith)
   open-tree (tree i q c g) s e f le re bh ll rl lw rw′ h =
       let own = s .0 .quota-is in
       record {

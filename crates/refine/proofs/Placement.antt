@@ -25,18 +25,18 @@ placed-none u own next [] column h = refl
 placed-none u own next (e ∷ s) column h =
     (elim (eqb u (e .id)) as (λ b. pick b 1 0 + times u s ≡ 0
     → cond b (placed u own next s (set column own (e .quota))) (placed u own (suc next) s (set column next (e .quota))) ≡ sets (set column next (e .quota)) (suc next) (map (λ e. e .quota) s))
-    [ true ↦ λ h. let z : ⊥ = omega arith in absurd z | false ↦ λ h. placed-none u own (suc next) s (set column next (e .quota)) (omega arith) ]) h
+    [ true ↦ λ h. absurd (omega arith) | false ↦ λ h. placed-none u own (suc next) s (set column next (e .quota)) (omega arith) ]) h
 
 without-none : (u : ℕ) (s : List Entry) → times u s ≡ 0 → without u s ≡ s
 without-none u [] h = refl
 without-none u (e ∷ s) h =
     (elim (eqb u (e .id)) as (λ b. pick b 1 0 + times u s ≡ 0 → cond b (without u s) (e ∷ without u s) ≡ e ∷ s)
-    [ true ↦ λ h. let z : ⊥ = omega arith in absurd z | false ↦ λ h. ap (λ t. e ∷ t) (without-none u s (omega arith)) ]) h
+    [ true ↦ λ h. absurd (omega arith) | false ↦ λ h. ap (λ t. e ∷ t) (without-none u s (omega arith)) ]) h
 
 pub placed-one : (u own next : ℕ) (s : List Entry) (column : List ℕ) → own < next → times u s ≡ 1
     → placed u own next s column ≡ sets (set column own (quotaOf u s)) next (map (λ e. e .quota) (without u s))
 unfolding placed
-placed-one u own next [] column h k = let z : ⊥ = omega arith in absurd z
+placed-one u own next [] column h k = absurd (omega arith)
 placed-one u own next (e ∷ s) column h k =
     (elim (eqb u (e .id)) as (λ b. pick b 1 0 + times u s ≡ 1
     → cond b (placed u own next s (set column own (e .quota))) (placed u own (suc next) s (set column next (e .quota)))
@@ -85,7 +85,7 @@ count-map f u [] = refl
 count-map f u (e ∷ s) = ap (λ n. pick (eqb u (e .id)) 1 0 + n) (count-map f u s)
 
 without-length : (u : ℕ) (s : List Entry) → times u s ≡ 1 → length (without u s) + 1 ≡ length s
-without-length u [] h = let z : ⊥ = omega arith in absurd z
+without-length u [] h = absurd (omega arith)
 without-length u (e ∷ s) h =
     (elim (eqb u (e .id)) as (λ b. pick b 1 0 + times u s ≡ 1 → length (cond b (without u s) (e ∷ without u s)) + 1 ≡ suc (length s))
     [ true ↦ λ h. rw (without-none u s (omega arith)) (omega arith) | false ↦ λ h. omega (arith, without-length u s (omega arith)) ]) h

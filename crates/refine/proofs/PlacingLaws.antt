@@ -5,6 +5,7 @@ use mathlib.Core.List.{List, [], _∷_}
 use Prim.Native.Nat.{ℕ, zero, suc, _+_, _-_, _≤_, _<_}
 use native.Mathlib.Omega.{arith}
 use native.Mathlib.Numerals.{add-one}
+use native.Mathlib.Nat.{sub-zero}
 use lib.Dec.{eqb}
 use lib.ListN.{length, getD, set, length-set}
 use borrow.Author.Tests.{eq-eqb, ne-eqb}
@@ -21,7 +22,7 @@ listed-step ids values i n h =
     rw (e, f)
 
 pub listed-all : (ids values : List ℕ) (n : ℕ) → listed ids values 0 (n - 0) ≡ listed ids values 0 n
-listed-all ids values n = let e : n - 0 ≡ n = omega arith in rw e
+listed-all ids values n = rw sub-zero
 
 pub listed-end : (ids values : List ℕ) (i n : ℕ) → n ≤ i → listed ids values i (n - i) ≡ []
 listed-end ids values i n h = let e : n - i ≡ 0 = omega arith in rw e
@@ -53,8 +54,7 @@ pub record Places (column₀ : List ℕ) (own next u : ℕ) (ids values : List �
 pub begins : {column : List ℕ} {own next u : ℕ} {ids values : List ℕ} {n : ℕ} → own < next → next + n ≤ length column + times u (listed ids values 0 n)
     → Places column own next u ids values n column next 0
 begins {u = u} {ids = ids} {values = values} {n = n} a r =
-    let e : n - 0 ≡ n = omega arith in
-    record { inside = omega arith; same = refl; apart = a; room = rw e r; whole = rw e refl }
+    record { inside = omega arith; same = refl; apart = a; room = rw (sub-zero n) r; whole = rw (sub-zero n) }
 
 module _ {column₀ : List ℕ} {own next u : ℕ} {ids values : List ℕ} {n : ℕ} {column : List ℕ} {row i : ℕ} (p : Places column₀ own next u ids values n column row i) where
   pub own-fits : i < n → own < length column

@@ -15,7 +15,7 @@ use Rattle.request.specs.Forest.{Forest, Direction, preL, left, right, treeOrde
 use Rattle.request.specs.Request.{Request, entries, leftOf, rightOf}
 use Rattle.request.specs.Reading.{requestOf}
 use Rattle.request.specs.Acceptance.{accepted}
-use Rattle.request.proofs.Sums.{Clear, leb-iff, sum-at, own-quotas}
+use Rattle.request.proofs.Sums.{Clear, noLater, later-iff, sum-at, own-quotas}
 use Rattle.request.proofs.Trees
 use Rattle.request.proofs.ReadLaws.{request-read}
 use Rattle.request.proofs.Accepting.{request-accepted}
@@ -32,8 +32,8 @@ use Rattle.refine.proofs.Cutting.{Refining, refines, Inside, entry-insi
 
 -- two comparisons that say the same
 subgroup-iff : (l r k s l′ r′ k′ s′ : ℕ) → l ≤ k ↔ l′ ≤ k′ → r ≤ s ↔ r′ ≤ s′ → subgroup l r k s ≡ subgroup l′ r′ k′ s′
-unfolding subgroup
-subgroup-iff l r k s l′ r′ k′ s′ f g = rw (leb-iff l k l′ k′ (f .0) (f .1), leb-iff r s r′ s′ (g .0) (g .1))
+unfolding subgroup noLater
+subgroup-iff l r k s l′ r′ k′ s′ f g = later-iff l r k s l′ r′ k′ s′ f g
 
 -- Theorem 1 of the paper
 pub tree-order : (d : Direction) (t : Forest) (x y : ℕ) → Positive (preL t) → times x (preL t) ≡ 1 → times y (preL t) ≡ 1

@@ -42,22 +42,17 @@ sum-split f u (e ∷ s) h =
 
 -- another id comes as often without u, with the same quota
 module _ (x u : ℕ) (n : x ≢ u) where
-  one-but : (e : Entry) → but u (oneAt x) e ≡ oneAt x e
-  one-but e =
-      (elim (eqb u (e .id)) as (λ b. eqb u (e .id) ≡ b → pick b 0 (oneAt x e) ≡ oneAt x e)
-      [ true ↦ λ p. sym (ap (λ c. pick c 1 0) (ne-eqb x (e .id) (λ k. n (k ∙ sym (eqb-true u (e .id) p))))) | false ↦ λ p. refl ]) refl
-
-  quota-but : (e : Entry) → but u (quotaAt x) e ≡ quotaAt x e
-  quota-but e =
-      (elim (eqb u (e .id)) as (λ b. eqb u (e .id) ≡ b → pick b 0 (quotaAt x e) ≡ quotaAt x e)
-      [ true ↦ λ p. sym (ap (λ c. pick c (e .quota) 0) (ne-eqb x (e .id) (λ k. n (k ∙ sym (eqb-true u (e .id) p))))) | false ↦ λ p. refl ]) refl
+  pick-but : (k : Entry → ℕ) (e : Entry) → but u (λ e. pick (eqb x (e .id)) (k e) 0) e ≡ pick (eqb x (e .id)) (k e) 0
+  pick-but k e =
+      (elim (eqb u (e .id)) as (λ b. eqb u (e .id) ≡ b → pick b 0 (pick (eqb x (e .id)) (k e) 0) ≡ pick (eqb x (e .id)) (k e) 0)
+      [ true ↦ λ p. sym (ap (λ c. pick c (k e) 0) (ne-eqb x (e .id) (λ j. n (j ∙ sym (eqb-true u (e .id) p))))) | false ↦ λ p. refl ]) refl
 
 module _ (x u : ℕ) (s : List Entry) (n : x ≢ u) where
   pub count-but : sum (but u (oneAt x)) s ≡ times x s
-  count-but = sum-at (but u (oneAt x)) (oneAt x) s (λ e _. one-but x u n e)
+  count-but = sum-at (but u (oneAt x)) (oneAt x) s (λ e _. pick-but x u n (λ _. 1) e)
 
   pub quotas-but : sum (but u (quotaAt x)) s ≡ quotaOf x s
-  quotas-but = sum-at (but u (quotaAt x)) (quotaAt x) s (λ e _. quota-but x u n e)
+  quotas-but = sum-at (but u (quotaAt x)) (quotaAt x) s (λ e _. pick-but x u n (λ e. e .quota) e)
 
   pub count-without : times x (without u s) ≡ times x s
   count-without = sum-without (oneAt x) u s ∙ count-but

@@ -4,6 +4,7 @@ use mathlib.Core.Bool.{Bool, true, false}
 use mathlib.Core.List.{List, [], _∷_, _++_, map}
 use Prim.Native.Nat.{ℕ, zero, suc, _+_, _-_, _≤_, _<_}
 use native.Mathlib.Omega.{arith}
+use native.Mathlib.Nat.{sub-zero}
 use lib.Dec.{eqb}
 use lib.ListN.{length, getD}
 use borrow.Author.Tests.{eq-eqb, ne-eqb, eqb-true}
@@ -42,7 +43,7 @@ module _ (c : Columns) (n x i : ℕ) (p : PlaceIn (c .id) n x i) (h : i < n) whe
   go (suc d) j e = ap (rowIn x) (step j (omega arith)) ∙ rw (ne-eqb x (getD (c .id) j 0) (λ z. p .before j (omega arith) (sym z))) (go d (suc j) (omega arith))
 
   row-at : rowIn x (rows c n) ≡ rowAt c i
-  row-at = let e : n - 0 ≡ n = omega arith in rw e at (go i 0 (omega arith))
+  row-at = rw sub-zero at (go i 0 (omega arith))
 
   pub l-at : lOf x (rows c n) ≡ getD (c .l) i 0
   l-at = l-row x (rows c n) ∙ ap (λ (w : Row). w .l) row-at
@@ -61,7 +62,7 @@ by-head g u e s true f ih h = let v : e .id ≡ u = sym (eqb-true u (e .id) f) i
 by-head g u e s false f ih h = omega (arith, ih (omega arith))
 
 quota-by-id : (g : ℕ → ℕ) (u : ℕ) (s : List Entry) → times u s ≡ 1 → quotaOf u (map (λ e. entry (e .id) (g (e .id))) s) ≡ g u
-quota-by-id g u [] h = let z : ⊥ = omega arith in absurd z
+quota-by-id g u [] h = absurd (omega arith)
 quota-by-id g u (e ∷ s) h = by-head g u e s (eqb u (e .id)) refl (quota-by-id g u s) h
 
 -- how often an id comes does not hang on the values

@@ -7,7 +7,8 @@ use Prim.Native.Nat.{ℕ, zero, suc, _+_, _≤_, _<_}
 use native.Mathlib.Omega.{arith}
 use lib.Dec.{eqb, leb}
 use lib.ListN.{length}
-use borrow.Author.Tests.{eqb-true, eq-eqb, le-leb, lt-leb, leb-true}
+use borrow.Author.Tests.{eqb-true, eq-eqb, le-leb, lt-leb}
+use Rattle.rules.proofs.Cases.{by-lt}
 use Rattle.request.specs.Entries.{Entry, pick, sum, total, times, quotaOf, before, Same, Distinct, Positive}
 
 pub sum-append : (f : Entry → ℕ) (s t : List Entry) → sum f (s ++ t) ≡ sum f s + sum f t
@@ -124,14 +125,11 @@ apart x y (e ∷ s) n h k =
     (quota-none x s) (quota-none y s) (apart x y s n) h k
 
 -- two tests that say the same
-pub leb-iff : (a b c d : ℕ) → (a ≤ b → c ≤ d) → (c ≤ d → a ≤ b) → leb a b ≡ leb c d
-leb-iff a b c d f g = go (leb a b) refl (leb c d) refl
-  where
-    go : (s : Bool) → leb a b ≡ s → (t : Bool) → leb c d ≡ t → s ≡ t
-    go true e true h = refl
-    go true e false h = sym (le-leb c d (f (leb-true a b e))) ∙ h
-    go false e true h = sym (sym (le-leb a b (g (leb-true c d h))) ∙ e)
-    go false e false h = refl
+leb-iff : (a b c d : ℕ) → (a ≤ b → c ≤ d) → (c ≤ d → a ≤ b) → leb a b ≡ leb c d
+leb-iff a b c d f g =
+    by-lt b a
+    (λ h. lt-leb a b h ∙ sym (lt-leb c d (by-lt d c (λ k. k) (λ k. absurd (omega (arith, g k))))))
+    (λ h. le-leb a b h ∙ sym (le-leb c d (f h)))
 
 -- l and r stand no later than k and s
 unfoldable pub noLater : (l r k s : ℕ) → Bool

@@ -12,6 +12,11 @@ module _ {A : Type 0} where
   pub never-refused : {C : Type 0} {n : ℕ} {a : A} → refused n ≡ answer a → C
   never-refused e = let z : _≡_ {A = ℕ} 0 1 = cc in let f : ⊥ = omega arith in absurd f
 
+  -- by cases on an answer, with the fact that it shows
+  pub by-answer : {C : Type 0} (a : Answer A) → ((x : A) → a ≡ answer x → C) → ((n : ℕ) → a ≡ refused n → C) → C
+  by-answer (answer x) f g = f x refl
+  by-answer (refused n) f g = g n refl
+
   -- an answer past a refusal's condition: the condition does not hold
   pub peel : (b : Bool) (n : ℕ) (x : Answer A) {a : A} → cond b (refused n) x ≡ answer a → (b ≡ false) × (x ≡ answer a)
   peel true n x e = never-refused e

@@ -25,7 +25,7 @@ module _ {n : ℕ} where
   count-begins h = record { more = 9; small = omega arith; whole = refl }
 
   count-goes : (count left k : ℕ) → left < cap k → length (digits k left) + count ≡ length (decimal n) + 1 → 10 ≤ left → Counts n (count + 1) (left / 10)
-  count-goes count left zero f w h = let z : ⊥ = omega arith in absurd z
+  count-goes count left zero f w h = absurd (omega arith)
   count-goes count left (suc k) f w h = record { more = k; small = omega arith; whole = omega (arith, more-count k left h) }
 
   pub count-again : {count left : ℕ} → Counts n count left → 10 ≤ left → Counts n (count + 1) (left / 10)
@@ -84,7 +84,7 @@ module _ {buffer₀ : List ℕ} {at n : ℕ} where
   goes : (buffer : List ℕ) (i left k : ℕ) (tail : List ℕ) → left < cap k → at + length (decimal n) ≤ length buffer₀ → decimal n ≡ digits k left ++ tail
       → i + 1 ≡ at + length (digits k left) → set buffer i (left % 10 + 48) ≡ sets buffer₀ i ((left % 10 + 48) ∷ tail) → 10 ≤ left
       → (1 ≤ i) × Writes buffer₀ at n (set buffer i (left % 10 + 48)) (i - 1) (left / 10)
-  goes buffer i left zero tail f r w e s h = let z : ⊥ = omega arith in absurd z
+  goes buffer i left zero tail f r w e s h = absurd (omega arith)
   goes buffer i left (suc k) tail f r w e s h =
       let c = more-count k left h in
       let d = digits-count k (left / 10) in

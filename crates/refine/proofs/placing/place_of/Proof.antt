@@ -14,7 +14,7 @@ abbrev μ-loop : tie.MeasureT-loop
 μ-loop column n x i₀ i = n - i
 
 loop-holds : tie.Need-loop-holds Inv-loop μ-loop
-loop-holds c = (omega arith, λ k h. let z : ⊥ = omega arith in absurd z)
+loop-holds c = (omega arith, λ k h. absurd (omega arith))
 
 mul-if1 : tie.Need-mul-if1 Inv-loop μ-loop
 mul-if1 c = omega arith
@@ -35,7 +35,7 @@ loop-again : tie.Need-loop-again Inv-loop μ-loop
 loop-again c = (omega arith, below-more _ _ (c .before .before .before .loop .inv .1) (c .if1 .left))
 
 returns-2 : tie.Need-returns-2 Inv-loop μ-loop
-returns-2 c = record { most = c .before .loop .inv .0; there = λ h. let z : ⊥ = omega arith in absurd z; before = c .before .loop .inv .1 }
+returns-2 c = record { most = c .before .loop .inv .0; there = λ h. absurd (omega arith); before = c .before .loop .inv .1 }
 
 pub place-of-spec : {M : Type 1} → statement M
 place-of-spec =
