@@ -61,6 +61,7 @@ unfoldable pub leastFirst : ℕ → List Window → ℕ
 leastFirst day [] = day
 leastFirst day (w ∷ ws) = leastFirst (min day (w .first)) ws
 
+-- a decision: on and open, on until a last day, ended on a last day, ahead of a first day, or never
 pub data Decision : Type 0 where
   onOpen : Decision
   onUntil : ℕ → Decision

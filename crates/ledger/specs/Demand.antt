@@ -1,7 +1,5 @@
--- Demand 3: a single claim about the whole list (document 01, "The ledger"). `demand-3` of proofs/Whole.antt proves it after every accepted fresh, for every list.
--- It shuts out, among others: columns that never change (the groups, and the answers to later calls, are not the ledger's);
--- an exploded group's neighbour renumbered (`numbers`, `kept`); numbers right for the first request only (`numbers` after any list);
--- a stale order, by an older table or by u alone (`orders`); passes in the field that a later request upsets (`decisions`); an engine that refuses everything, or 23 and 24 where quotas and rows suffice (`answers`).
+-- Demand 3: a single claim about the whole list (document 01, "The ledger"). `demand-3` of proofs/Whole.antt proves it for every list
+-- after every accepted fresh. docs/PROOF-MAP.md lists the wrong engines that it shuts out.
 use Prim.Native.Nat.{ℕ, _≤_}
 use mathlib.Core.Path.{_≡_}
 use mathlib.Core.Bool.{true, false}
@@ -58,6 +56,7 @@ module _ (c : Columns) (id quota : ℕ) where
     pub first-32 : h .first ≤ greatest
     pub last-32 : h .last ≤ greatest
 
+  -- what demand 3 says of the list `ks`, clause by clause
   pub record Demand (ks : List Call) : Type 0 where
     -- each call has exactly the ledger's answer
     pub answers : engineReplies (engineStart c id quota) ks ≡ ledgerReplies ledgerStart ks

@@ -38,6 +38,6 @@ fn answer(d: Decided) {
 
 fn main() {
     let mut input = io::large_buffer();
-    let n = io::read_full(0, &mut input);
+    let n = io::read_full(STDIN_FILENO, &mut input);
     answer(grant::question(&input[..n]));
 }

@@ -31,6 +31,6 @@ fn list(bytes: &[u8]) {
 
 fn main() {
     let mut input = io::large_buffer();
-    let n = io::read_full(0, &mut input);
+    let n = io::read_full(STDIN_FILENO, &mut input);
     list(&input[..n]);
 }

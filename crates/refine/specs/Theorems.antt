@@ -43,6 +43,7 @@ pub record Cut (q : Request) (t t′ : List Row) : Type 0 where
   pub separate : (x y : ℕ) → x ≢ y → IsEntry q x → IsEntry q y → disjoint (boxIn t′ x) (boxIn t′ y) ≡ true
   pub sizes : sum (λ e. qOf (e .id) t′) (entries q) ≡ qOf (q .exploded) t
 
+-- what an accepted request promises of the rows t′ after it, in columns with `room` rows that had the rows t before it
 pub record Promises (room : ℕ) (q : Request) (t t′ : List Row) : Type 0 where
   -- the rows are sound again, and there is room for them
   pub refined-sound : soundRows t′ ≡ answer t′

@@ -80,7 +80,7 @@ pub record Summary : Type 0 where
 abbrev pub summary : Answer Request → Answer Summary
 summary found = then found λ q. answer (record { exploded = q .exploded; upright = isUpright (q .direction); entries = size (q .trees); quota = whole (q .trees) })
 
--- the trees of a request that is heard stand in the work columns, with 1 to 256 entries
+-- the trees of a request that is heard stand in the work columns, with 1 to the most entries
 abbrev pub DrawnIn : Answer Request → Work → Type 0
 DrawnIn (answer q) w = Stored w 0 (q .trees) × (1 ≤ size (q .trees)) × (size (q .trees) ≤ mostEntries)
 DrawnIn (refused n) w = Unit {0}

@@ -10,6 +10,7 @@ pub data Forest : Type 0 where
   none : Forest
   tree : (id quota : ℕ) (children rest : Forest) → Forest
 
+-- the direction of a request: upright, a parent is a subgroup of its descendants; inverted, a descendant is one of its ancestors
 pub data Direction : Type 0 where
   upright inverted : Direction
 

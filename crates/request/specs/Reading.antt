@@ -35,7 +35,7 @@ pub record TreesRead : Type 0 where
   pub used : ℕ
 
 -- `n` trees from a position on, each in left pre-order, where `used` entries stand before and `below` reads the trees of an entry's children.
--- 7: before an entry, it is the 257th. 5, at `room` 0: its depth is 17
+-- 7: before an entry, it is the 257th. 5: its depth is 17, which `deep` says
 unfoldable pub treesBy : (ℕ → ℕ → ℕ → Answer TreesRead) → Bool → ℕ → List ℕ → ℕ → ℕ → Answer TreesRead
 treesBy below deep zero bytes at used = answer (record { trees = none; next = at; used = used })
 treesBy below deep (suc n) bytes at used =
@@ -47,7 +47,7 @@ treesBy below deep (suc n) bytes at used =
     answer (record { trees = tree (e .id) (e .quota) (c .trees) (r .trees); next = r .next; used = r .used })))
     (refused 7)
 
--- with `room` for so many depths
+-- with `room` for so many depths; a root has depth 1
 unfoldable pub treesAt : ℕ → ℕ → List ℕ → ℕ → ℕ → Answer TreesRead
 treesAt zero n bytes at used = treesBy (λ m p k. refused 5) true n bytes at used
 treesAt (suc room) n bytes at used = treesBy (λ m p k. treesAt room m bytes p k) false n bytes at used

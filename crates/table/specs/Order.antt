@@ -7,6 +7,7 @@ use Rattle.rules.specs.Answers.{Answer, answer, refused, then}
 use Rattle.table.specs.Columns.{Row, Columns}
 use Rattle.table.specs.Check.{checked}
 
+-- what order says of two groups: same, the first is a subgroup, the second is a subgroup, or incomparable
 pub data Order : Type 0 where
   same first second incomparable : Order
 
