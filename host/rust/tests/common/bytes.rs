@@ -41,9 +41,7 @@ fn encode_with_a_bad_one(rng: &mut Rng, numbers: &[u32]) -> Vec<u8> {
         } else {
             let length = bytes.len();
             bytes[last] |= 128;
-            for _ in 0..rng.below(3) {
-                bytes.push(128);
-            }
+            bytes.extend(std::iter::repeat_n(128, rng.below(3)));
             bytes.push(0);
             if rng.once_in(8) {
                 // Longer than five bytes.

@@ -66,15 +66,19 @@ impl Drop for Seed {
     }
 }
 
-/// The seeds of a test: these, or the one that ZINTUKOR_SEED names.
+fn variable(name: &str) -> Option<u64> {
+    std::env::var(name).ok().and_then(|number| number.parse().ok())
+}
+
+/// The seeds of a test: these, ZINTUKOR_TIMES as many, or the one that ZINTUKOR_SEED names.
 pub fn seeds(first: u64, how_many: u64) -> std::ops::Range<u64> {
-    match std::env::var("ZINTUKOR_SEED").ok().and_then(|seed| seed.parse().ok()) {
+    match variable("ZINTUKOR_SEED") {
         Some(seed) => seed..seed + 1,
-        None => first..first + how_many,
+        None => first..first + how_many * variable("ZINTUKOR_TIMES").unwrap_or(1),
     }
 }
 
 /// Whether ZINTUKOR_SEED names one seed, so that a test can't have seen everything.
 pub fn one_seed() -> bool {
-    std::env::var_os("ZINTUKOR_SEED").is_some()
+    variable("ZINTUKOR_SEED").is_some()
 }
