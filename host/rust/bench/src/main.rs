@@ -1,0 +1,139 @@
+//! The engine against plain Rust, in one run on the same inputs, both built for release.
+//!
+//! `cargo run --release --bin bench`. Each figure is the median of 41 rounds, the two versions in
+//! turn. The engine's times include the safe wrappers. No buffer or column is cleared first:
+//! rows past the count and the bytes of a buffer are those of earlier calls. What refine changes
+//! is restored from a copy before each round, outside the timed part.
+
+mod inputs;
+mod instead;
+mod timing;
+
+use std::hint::black_box;
+
+use timing::{compare, compare_reading, Times};
+use zintukor::{Columns, Pass, Table};
+
+/// Prints rows of one call by size, with the growth from the row before.
+struct Sizes {
+    call: &'static str,
+    unit: f64,
+    before: Option<f64>,
+}
+
+impl Sizes {
+    fn new(call: &'static str) -> Sizes {
+        Sizes { call, unit: 1.0, before: None }
+    }
+
+    fn row(&mut self, size: &str, times: Times) {
+        let (engine, plain) = (times.engine / self.unit, times.plain / self.unit);
+        let growth = self.before.map_or(String::new(), |before| format!("{:.2}", engine / before));
+        self.before = Some(engine);
+        let ratio = engine / plain;
+        println!("{:<8}{size:<26}{engine:>12.1}{plain:>12.1}{ratio:>8.2}{growth:>9}", self.call);
+    }
+}
+
+fn decide() {
+    let table = inputs::table(256);
+    let pass = table.pass(1).unwrap();
+    let mut sizes = Sizes::new("decide");
+    for how_many in [10, 1_000, 100_000] {
+        let list = zintukor::grants(&inputs::grants(&table, how_many));
+        let (feature, day) = (7, 10_000);
+        let Pass { l, r } = pass;
+        let times = compare_reading(
+            || zintukor::decide(feature, black_box(pass), day, black_box(&list)),
+            || zintukor_plain::decide(feature, black_box(l), r, day, black_box(&list)),
+        );
+        sizes.unit = how_many as f64;
+        sizes.row(&format!("{how_many} grants, per grant"), times);
+    }
+}
+
+fn refine(sizes: &mut Sizes, table: &Table, entries: u32) {
+    let request = inputs::request(table, entries);
+    let count = table.count();
+    let from = table.columns();
+    let (mut one, mut other) = (from.clone(), from.clone());
+    let Columns { id, l, r, q } = &mut other;
+    let plain = zintukor_plain::refine(id, l, r, q, count, &request).unwrap();
+    assert_eq!(zintukor::refine(&mut one, count, &request), Ok(plain));
+    assert_eq!(one, other);
+    let times = compare(
+        &mut vec![from.clone(); 64],
+        |copy| inputs::restore(copy, from),
+        |copy| zintukor::refine(copy, count, black_box(&request)),
+        |Columns { id, l, r, q }| zintukor_plain::refine(id, l, r, q, count, black_box(&request)),
+    );
+    sizes.row(&format!("{count} rows, {entries} entries"), times);
+}
+
+fn refines() {
+    let mut sizes = Sizes::new("refine");
+    for groups in [1, 16, 64, 250] {
+        refine(&mut sizes, &inputs::table(groups), 4);
+    }
+    let mut sizes = Sizes::new("refine");
+    for (groups, entries) in [(1, 16), (1, 64), (1, 256), (128, 128)] {
+        refine(&mut sizes, &inputs::table(groups), entries);
+    }
+}
+
+fn order() {
+    let mut sizes = Sizes::new("order");
+    for groups in [1, 16, 64, 256] {
+        let table = inputs::table(groups);
+        let Columns { id, l, r, q } = table.columns();
+        let (first, second) = (id[groups - 1], id[groups / 2]);
+        let times = compare_reading(
+            || zintukor::lent::order(black_box(id), l, r, q, groups, first, second),
+            || zintukor_plain::order(black_box(id), l, r, q, groups, first, second),
+        );
+        sizes.row(&format!("{groups} rows"), times);
+    }
+}
+
+fn store_and_read() {
+    let mut stores = Sizes::new("store");
+    let mut read = Vec::new();
+    for groups in [1, 16, 64, 256] {
+        let table = inputs::table(groups);
+        let Columns { id, l, r, q } = table.columns();
+        let (mut one, mut other) = (vec![0; 6_000], vec![0; 6_000]);
+        let times = compare_reading(
+            || zintukor::lent::store(black_box(id), l, r, q, groups, &mut one),
+            || zintukor_plain::store(black_box(id), l, r, q, groups, &mut other),
+        );
+        assert_eq!(one, other);
+        stores.row(&format!("{groups} rows"), times);
+        let bytes = table.store().unwrap();
+        let (mut one, mut other) = (table.columns().clone(), table.columns().clone());
+        let times = compare_reading(
+            || zintukor::read(&mut one, black_box(&bytes)),
+            || {
+                let Columns { id, l, r, q } = &mut other;
+                zintukor_plain::read(id, l, r, q, black_box(&bytes))
+            },
+        );
+        assert_eq!(one, other);
+        read.push((groups, times));
+    }
+    let mut reads = Sizes::new("read");
+    for (groups, times) in read {
+        reads.row(&format!("{groups} rows"), times);
+    }
+}
+
+fn main() {
+    if cfg!(debug_assertions) {
+        eprintln!("These times mean nothing without --release.");
+    }
+    println!("{:<8}{:<26}{:>12}{:>12}{:>8}{:>9}", "call", "size", "engine ns", "plain ns", "ratio", "growth");
+    decide();
+    refines();
+    order();
+    store_and_read();
+    instead::report();
+}

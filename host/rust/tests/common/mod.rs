@@ -1,0 +1,10 @@
+//! What the tests share: random numbers, guarded columns, requests and tables made at random,
+//! and the two implementations called side by side.
+#![allow(dead_code)]
+
+pub mod both;
+pub mod bytes;
+pub mod guarded;
+pub mod requests;
+pub mod rng;
+pub mod tables;
