@@ -1,5 +1,6 @@
 // Decides on a feature for a pass. Its input, at most 65536 bytes: the numbers feature, l, r and day, then a grant list.
 use grant::Decided;
+use libc::STDIN_FILENO;
 use libc::STDOUT_FILENO;
 
 fn text(t: &[u8]) {
