@@ -6,7 +6,7 @@ use Prim.Native.Nat.{ℕ, _≤_}
 use native.Mathlib.Omega.{arith}
 use lib.Dec.{eqb, ltb}
 use lib.ListN.{length, length-append, length-drop, length-map}
-use borrow.Author.Tests.{eqb-true, eqb-false, ltb-false}
+use borrow.Author.Tests.{eqb-true, eqb-false, ltb-false, ne-eqb, le-ltb}
 use Rattle.rules.specs.Limits.{mostRows}
 use Rattle.rules.proofs.Bools.{or-none, and-both, not-none}
 use Rattle.table.specs.Columns.{Row, Columns, overlay, put}
@@ -36,6 +36,17 @@ lengths-good c e =
       some = omega arith;
       most = ltb-false _ _ (range .1);
     }
+
+pub count-good : (n count : ℕ) → countBad n count ≡ false → (1 ≤ count) × (count ≤ n)
+unfolding countBad
+count-good n count e =
+    let both = or-none (eqb count 0) (ltb n count) e in
+    let some : count ≡ 0 → ⊥ = eqb-false count 0 (both .0) in
+    (omega arith, ltb-false n count (both .1))
+
+pub good-count : (n count : ℕ) → 1 ≤ count → count ≤ n → countBad n count ≡ false
+unfolding countBad
+good-count n count some most = rw (ne-eqb count 0 (λ e. omega arith), le-ltb n count most)
 
 pub holds-count : {c : Columns} {count : ℕ} → Lengths c → count ≤ length (c .id) → Holds c count
 holds-count l h = record { in-id = h; in-l = omega (arith, l .in-l); in-r = omega (arith, l .in-r); in-q = omega (arith, l .in-q) }

@@ -34,6 +34,16 @@ pub fn lengths_bad(id: &[u32], l: &[u32], r: &[u32], q: &[u32]) -> bool
     false
 }
 
+// 10: count 0 or above length.
+pub fn count_bad(length: usize, count: usize) -> bool
+    ensures { λ t. ⌜ t ≡ countBad length count ⌝ }
+{
+    if count == 0 {
+        return true;
+    }
+    length < count
+}
+
 // 11: a value 0, or a range past the greatest number.
 fn value_bad(id: u32, l: u32, r: u32, q: u32) -> bool
     ensures { λ t. ⌜ t ≡ valueBad (record { id = id; l = l; r = r; q = q }) ⌝ }
@@ -158,10 +168,7 @@ pub fn check_columns(id: &[u32], l: &[u32], r: &[u32], q: &[u32], count: usize) 
     if lengths_bad(id, l, r, q) {
         return Checked::Refused(Refusal::Columns);
     }
-    if count == 0 {
-        return Checked::Refused(Refusal::Columns);
-    }
-    if id.len() < count {
+    if count_bad(id.len(), count) {
         return Checked::Refused(Refusal::Columns);
     }
     check_rows(id, l, r, q, count)
