@@ -172,7 +172,17 @@ fn read_through(
     match draw_rows(bytes, at, count, &mut *ids, &mut *ls, &mut *rs, &mut *qs) {
         Checked::Refused(why) => Counted::Refused(why),
         Checked::Sound => {
-            copy_rows(&mut *id, &mut *l, &mut *r, &mut *q, &*ids, &*ls, &*rs, &*qs, count);
+            copy_rows(
+                &mut *id,
+                &mut *l,
+                &mut *r,
+                &mut *q,
+                &*ids,
+                &*ls,
+                &*rs,
+                &*qs,
+                count,
+            );
             Counted::Count(count)
         }
     }
@@ -198,7 +208,19 @@ fn read_rows(
     let mut ls = [0u32; MOST_ROWS];
     let mut rs = [0u32; MOST_ROWS];
     let mut qs = [0u32; MOST_ROWS];
-    read_through(id, l, r, q, &mut ids, &mut ls, &mut rs, &mut qs, bytes, at, count)
+    read_through(
+        id,
+        l,
+        r,
+        q,
+        &mut ids,
+        &mut ls,
+        &mut rs,
+        &mut qs,
+        bytes,
+        at,
+        count,
+    )
 }
 
 // Reads a table in: 10 for lengths, the count, 10 for the count, the rows, 6 where bytes remain, then 11, 12, 13.
