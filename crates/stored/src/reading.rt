@@ -172,17 +172,7 @@ fn read_through(
     match draw_rows(bytes, at, count, &mut *ids, &mut *ls, &mut *rs, &mut *qs) {
         Checked::Refused(why) => Counted::Refused(why),
         Checked::Sound => {
-            copy_rows(
-                &mut *id,
-                &mut *l,
-                &mut *r,
-                &mut *q,
-                &*ids,
-                &*ls,
-                &*rs,
-                &*qs,
-                count,
-            );
+            copy_rows(id, l, r, q, &*ids, &*ls, &*rs, &*qs, count);
             Counted::Count(count)
         }
     }
