@@ -3,11 +3,13 @@ use mathlib.Core.Path.{_≡_, ap, sym, _∙_}
 use mathlib.Core.List.{List, [], _∷_, _++_}
 use Prim.Native.Nat.{ℕ, suc, _+_, _<_, _≤_}
 use native.Mathlib.Omega.{arith}
-use lib.ListN.{length, set, length-append}
-use lib.Seq.{sets, sets-eq, length-sets}
+use lib.ListN.{length, set, take, drop, length-append}
+use lib.Seq.{sets, sets-eq, length-sets, take-append-seam}
 use borrow.Author.Tests.{le-leb, lt-leb}
 use Rattle.rules.specs.Answers.{answer, refused}
 use Rattle.rules.specs.Buffers.{room, written, after}
+use Rattle.rules.proofs.Answers.{same-answer, never-refused}
+use Rattle.rules.proofs.Cases.{by-lt}
 
 module _ (buffer : List ℕ) (at : ℕ) (bytes : List ℕ) where
   -- with room for them, the bytes are counted and stand in the buffer
@@ -23,6 +25,20 @@ module _ (buffer : List ℕ) (at : ℕ) (bytes : List ℕ) where
   pub kept : length buffer < at + length bytes → (refused 30 ≡ written buffer at bytes) × (buffer ≡ after buffer at bytes)
   unfolding written after room
   kept short = (rw (lt-leb _ _ short), rw (lt-leb _ _ short))
+
+  -- a writer that answered had room, and its answer is the byte count
+  pub written-room : {n : ℕ} → written buffer at bytes ≡ answer n → (at + length bytes ≤ length buffer) × (length bytes ≡ n)
+  written-room e =
+      by-lt (length buffer) (at + length bytes)
+      (λ h. never-refused (kept h .0 ∙ e))
+      (λ h. (h, same-answer (sym (written-all h) ∙ e)))
+
+-- bytes written at the buffer's start stand there
+pub after-start : (buffer bytes : List ℕ) → length bytes ≤ length buffer → take (length bytes) (after buffer 0 bytes) ≡ bytes
+unfolding after room
+after-start buffer bytes h =
+    let fits : 0 + length bytes ≤ length buffer = omega arith in
+    rw (le-leb _ _ fits) (take-append-seam bytes (drop (0 + length bytes) buffer))
 
 sets-sets : (a b s : List ℕ) (at : ℕ) → sets (sets s at a) (at + length a) b ≡ sets s at (a ++ b)
 sets-sets [] b s at = let e : at + 0 ≡ at = omega arith in ap (λ (i : ℕ). sets s i b) e

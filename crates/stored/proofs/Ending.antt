@@ -5,13 +5,12 @@ use mathlib.Core.List.{List}
 use Prim.Native.Nat.{ℕ, _<_, _≤_}
 use lib.ListN.{length}
 use native.Mathlib.Omega.{arith}
-use borrow.Author.Tests.{lt-ltb, le-ltb, eq-eqb, ne-eqb}
+use borrow.Author.Tests.{lt-ltb, le-ltb}
 use Rattle.rules.specs.Answers.{Answer, answer, refused, then}
 use Rattle.rules.specs.Limits.{mostRows}
 use Rattle.rules.specs.Refusals.{refusalNumber}
 use Rattle.rules.specs.declared.Refusal.{Refusal}
 use Rattle.rules.proofs.Answers.{same-answer, never-refused}
-use Rattle.rules.proofs.Bools.{or-right}
 use Rattle.number.specs.Number.{found, numberAt}
 use Rattle.table.specs.Columns.{Row, Columns, rows, put, counted, afterwards}
 use Rattle.table.specs.Check.{lengthsBad, countBad, soundRows, checked}
@@ -24,6 +23,7 @@ use Rattle.table.specs.declared.Checked.{Checked}
 use Rattle.table.specs.declared.Checked.the-variants as verdict
 use Rattle.stored.specs.declared.reading.Ended.{Ended}
 use Rattle.stored.specs.declared.reading.Ended.the-variants as ended
+use Rattle.table.proofs.Lengths.{good-count}
 use Rattle.table.proofs.Passing.{good-rows, given-answer, given-refused}
 
 -- ## The answer and the columns
@@ -73,8 +73,8 @@ module _ {c : Columns} {count : ℕ} (w : Work c) (most : count ≤ mostRows) wh
   work-holds = record { in-id = omega (arith, w .in-id); in-l = omega (arith, w .in-l); in-r = omega (arith, w .in-r); in-q = omega (arith, w .in-q) }
 
   work-checked : 1 ≤ count → checked c count ≡ soundRows (rows c count)
-  unfolding checked lengthsBad countBad
-  work-checked some = rw (w .in-id, w .in-l, w .in-r, w .in-q, ne-eqb count 0 (λ e. omega arith), le-ltb mostRows count most)
+  unfolding checked lengthsBad
+  work-checked some = rw (w .in-id, w .in-l, w .in-r, w .in-q, good-count mostRows count some most)
 
 -- what the code says of the rows, and what that means
 module _ {a : Answer (List Row)} where
@@ -106,15 +106,11 @@ module _ (c : Columns) (bytes : List ℕ) where
     unfolding readRows
     read-cut e = rw (good, e)
 
-    pub read-none : {count next : ℕ} → numberAt bytes 0 ≡ found count next → count ≡ 0 → readRows c bytes ≡ refused 10
-    unfolding readRows countBad
-    read-none {count} e h = rw (good, e, eq-eqb count 0 h)
+    module _ {count next : ℕ} (e : numberAt bytes 0 ≡ found count next) where
+      pub read-none : countBad (length (c .id)) count ≡ true → readRows c bytes ≡ refused 10
+      unfolding readRows
+      read-none h = rw (good, e, h)
 
-    pub read-many : {count next : ℕ} → numberAt bytes 0 ≡ found count next → length (c .id) < count → readRows c bytes ≡ refused 10
-    unfolding readRows countBad
-    read-many {count} e h = rw (good, e, or-right _ _ (lt-ltb (length (c .id)) count h))
-
-    pub read-rest : {count next : ℕ} → numberAt bytes 0 ≡ found count next → (count ≡ 0 → ⊥) → count ≤ length (c .id)
-        → readRows c bytes ≡ rowsToEnd count bytes next
-    unfolding readRows countBad
-    read-rest {count} e h m = rw (good, e, ne-eqb count 0 h, le-ltb (length (c .id)) count m)
+      pub read-rest : countBad (length (c .id)) count ≡ false → readRows c bytes ≡ rowsToEnd count bytes next
+      unfolding readRows
+      read-rest h = rw (good, e, h)

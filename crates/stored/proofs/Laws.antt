@@ -19,7 +19,7 @@ use Rattle.table.specs.Columns.{Row, Columns, rowAt, rowsFrom, rows}
 use Rattle.table.specs.Check.{someRow, lengthsBad, countBad, valueBad, soundRows, checked}
 use Rattle.stored.specs.Stored.{rowBytes, rowsBytes, tableBytes, RowRead, rowFound, rowRead, Rows, joined, rowsAt, rowsToEnd, readRows}
 use Rattle.table.proofs.Rows.{rows-length}
-use Rattle.table.proofs.Lengths.{lengths-good}
+use Rattle.table.proofs.Lengths.{lengths-good, count-good, good-count}
 use Rattle.table.proofs.Passing.{good-rows, rows-good, check-passed}
 use Rattle.stored.proofs.Writing.{row-count}
 use Rattle.stored.proofs.Filling.{rows-suc}
@@ -108,7 +108,7 @@ table-back t d f sound some good most =
     let z : 0 + length first ≡ length first = omega arith in
     let ends : ltb (length first + length (rowsBytes t)) (length (first ++ rowsBytes t)) ≡ false =
     le-ltb (length first + length (rowsBytes t)) (length (first ++ rowsBytes t)) (omega arith) in
-    read-rest d (first ++ rowsBytes t) good count (λ e. omega arith) most
+    read-rest d (first ++ rowsBytes t) good count (good-count _ _ some most)
     ∙ rw (z, all, ends) sound
 
 -- a table that is stored reads back as the same table, wherever the columns hold its count
@@ -124,7 +124,7 @@ stored-back c count {t} d h e good most =
 
 -- ## Read, then stored
 
-then-found : {A B : Type 0} (a : Answer A) (f : A → Answer B) {y : B} → then a f ≡ answer y → (x : A) × (a ≡ answer x) × (f x ≡ answer y)
+pub then-found : {A B : Type 0} (a : Answer A) (f : A → Answer B) {y : B} → then a f ≡ answer y → (x : A) × (a ≡ answer x) × (f x ≡ answer y)
 then-found (answer x) f e = (x, refl, e)
 then-found (refused n) f e = never-refused e
 
@@ -172,20 +172,39 @@ rows-there (suc n) bytes at s bs e =
     let i = rows-there n bytes (a .0 .next) (b .0) bs (b .1) in
     rw (← (same-answer (b .2))) (ap suc (i .0), both-there (row-there bytes at (a .0) bs (a .1)) (i .1))
 
--- bytes that read in as a table are written back as those bytes exactly
-pub read-stored : (d : Columns) (bytes : List ℕ) {t : List Row} → Bytes bytes → readRows d bytes ≡ answer t → bytes ≡ tableBytes t
+-- what a read that is answered found
+pub record Read (d : Columns) (bytes : List ℕ) (t : List Row) : Type 0 where
+  pub lengths : lengthsBad d ≡ false
+  pub some : 1 ≤ length t
+  pub most : length t ≤ length (d .id)
+  pub sound : soundRows t ≡ answer t
+  pub whole : bytes ≡ tableBytes t
+
+pub read-found : (d : Columns) (bytes : List ℕ) {t : List Row} → Bytes bytes → readRows d bytes ≡ answer t → Read d bytes t
 unfolding readRows tableBytes rowsToEnd
-read-stored d bytes {t} bs e =
+read-found d bytes {t} bs e =
     let a = peel (lengthsBad d) _ _ e in
     let n = then-found (numberAt bytes 0) _ (a .1) in
-    let b = peel (countBad d (n .0 .value)) _ _ (n .2) in
+    let b = peel (countBad (length (d .id)) (n .0 .value)) _ _ (n .2) in
+    let k = count-good _ _ (b .0) in
     let s = then-found (rowsAt (n .0 .value) bytes (n .0 .next)) _ (b .1) in
     let g = peel (ltb (s .0 .next) (length bytes)) _ _ (s .2) in
-    let r = good-rows (s .0 .rows) (g .1) .1 in
+    let r = good-rows (s .0 .rows) (g .1) in
     let h = rows-there (n .0 .value) bytes (n .0 .next) (s .0) bs (s .1) in
     let all = both-there (number-there bytes 0 (n .0) bs (n .1)) (h .1) in
     let none = drop-of-length-le bytes (ltb-false (s .0 .next) (length bytes) (g .0)) in
-    rw (← r)
-    (all .stands
-    ∙ ap₂ (λ (k : ℕ) (u : List ℕ). (bytesOf k ++ rowsBytes (s .0 .rows)) ++ u) (sym (h .0)) none
-    ∙ append-nil (bytesOf (length (s .0 .rows)) ++ rowsBytes (s .0 .rows)))
+    rw (← (r .1))
+    (record {
+      lengths = a .0;
+      some = omega (arith, k .0, h .0);
+      most = omega (arith, k .1, h .0);
+      sound = rows-good (s .0 .rows) (r .0);
+      whole =
+          all .stands
+          ∙ ap₂ (λ (k : ℕ) (u : List ℕ). (bytesOf k ++ rowsBytes (s .0 .rows)) ++ u) (sym (h .0)) none
+          ∙ append-nil (bytesOf (length (s .0 .rows)) ++ rowsBytes (s .0 .rows));
+    })
+
+-- bytes that read in as a table are written back as those bytes exactly
+pub read-stored : (d : Columns) (bytes : List ℕ) {t : List Row} → Bytes bytes → readRows d bytes ≡ answer t → bytes ≡ tableBytes t
+read-stored d bytes bs e = read-found d bytes bs e .whole

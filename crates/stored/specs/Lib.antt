@@ -1,3 +1,4 @@
 pub mod Stored
 pub mod Says
 pub mod Work
+pub mod RoundTrips

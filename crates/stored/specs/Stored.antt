@@ -68,4 +68,4 @@ unfoldable pub readRows : Columns → List ℕ → Answer (List Row)
 readRows c bytes =
     cond (lengthsBad c) (refused 10)
     (then (numberAt bytes 0) λ count.
-    cond (countBad c (count .value)) (refused 10) (rowsToEnd (count .value) bytes (count .next)))
+    cond (countBad (length (c .id)) (count .value)) (refused 10) (rowsToEnd (count .value) bytes (count .next)))

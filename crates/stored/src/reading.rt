@@ -18,6 +18,7 @@ use rules::Refusal;
 use table::Checked;
 use table::Counted;
 use table::check_columns;
+use table::count_bad;
 use table::lengths_bad;
 
 // A row that stands in bytes: id, l, r, q, and the position after it.
@@ -147,7 +148,37 @@ fn draw_rows(
     }
 }
 
-// Reads rows that the columns hold, from a position to the bytes' end. No column is written before all rows are known to be sound.
+// Reads rows through work columns, from a position to the bytes' end. No column is written before 13 is known.
+fn read_through(
+    id: &mut [u32],
+    l: &mut [u32],
+    r: &mut [u32],
+    q: &mut [u32],
+    ids: &mut [u32],
+    ls: &mut [u32],
+    rs: &mut [u32],
+    qs: &mut [u32],
+    bytes: &[u8],
+    at: usize,
+    count: usize,
+) -> Counted
+    requires { ⌜ Holds (columns (now id) (now l) (now r) (now q)) count ⌝ }
+    requires { ⌜ Work (columns (now ids) (now ls) (now rs) (now qs)) ⌝ }
+    requires { ⌜ 1 ≤ count ⌝ }
+    requires { ⌜ count ≤ mostRows ⌝ }
+    ensures { λ t. ⌜ countedSays t ≡ counted (rowsToEnd count (now (bytes .entry)) at) ⌝ }
+    ensures { λ t. ⌜ columns (now (id .exit)) (now (l .exit)) (now (r .exit)) (now (q .exit)) ≡ afterwards (rowsToEnd count (now (bytes .entry)) at) (columns (now (id .entry)) (now (l .entry)) (now (r .entry)) (now (q .entry))) ⌝ }
+{
+    match draw_rows(bytes, at, count, &mut *ids, &mut *ls, &mut *rs, &mut *qs) {
+        Checked::Refused(why) => Counted::Refused(why),
+        Checked::Sound => {
+            copy_rows(id, l, r, q, &*ids, &*ls, &*rs, &*qs, count);
+            Counted::Count(count)
+        }
+    }
+}
+
+// Reads rows that the columns hold, from a position to the bytes' end.
 fn read_rows(
     id: &mut [u32],
     l: &mut [u32],
@@ -167,13 +198,19 @@ fn read_rows(
     let mut ls = [0u32; MOST_ROWS];
     let mut rs = [0u32; MOST_ROWS];
     let mut qs = [0u32; MOST_ROWS];
-    match draw_rows(bytes, at, count, &mut ids, &mut ls, &mut rs, &mut qs) {
-        Checked::Refused(why) => Counted::Refused(why),
-        Checked::Sound => {
-            copy_rows(id, l, r, q, &ids, &ls, &rs, &qs, count);
-            Counted::Count(count)
-        }
-    }
+    read_through(
+        id,
+        l,
+        r,
+        q,
+        &mut ids,
+        &mut ls,
+        &mut rs,
+        &mut qs,
+        bytes,
+        at,
+        count,
+    )
 }
 
 // Reads a table in: 10 for lengths, the count, 10 for the count, the rows, 6 where bytes remain, then 11, 12, 13.
@@ -189,10 +226,7 @@ pub fn read(id: &mut [u32], l: &mut [u32], r: &mut [u32], q: &mut [u32], bytes: 
         Drawn::Refused(why) => Counted::Refused(why),
         Drawn::Number(value, next) => {
             let count = value as usize;
-            if count == 0 {
-                return Counted::Refused(Refusal::Columns);
-            }
-            if id.len() < count {
+            if count_bad(id.len(), count) {
                 return Counted::Refused(Refusal::Columns);
             }
             read_rows(id, l, r, q, bytes, next, count)

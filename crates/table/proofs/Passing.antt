@@ -3,20 +3,18 @@ use mathlib.Core.Path.{_≡_, refl, ap, sym, _∙_}
 use mathlib.Core.Bool.{Bool, true, false}
 use mathlib.Core.List.{List}
 use Prim.Native.Nat.{ℕ, _≤_}
-use native.Mathlib.Omega.{arith}
 use lib.ListN.{length}
-use borrow.Author.Tests.{eqb-false, ltb-false}
 use Rattle.rules.specs.Answers.{Answer, answer, refused, then}
 use Rattle.rules.specs.Refusals.{refusalNumber}
 use Rattle.rules.proofs.Answers.{same-answer, never-refused, peel}
 use Rattle.rules.proofs.Bools.{or-none}
 use Rattle.table.specs.Columns.{Row, Columns, rows}
-use Rattle.table.specs.Check.{someRow, somePair, lengthsBad, countBad, valueBad, sameId, rangesMeet, soundRows, checked}
+use Rattle.table.specs.Check.{someRow, somePair, lengthsBad, valueBad, sameId, rangesMeet, soundRows, checked}
 use Rattle.table.specs.Held.{Holds}
 use Rattle.table.specs.Says.{checkedSays, given}
 use Rattle.table.specs.declared.Checked.{Checked}
 use Rattle.table.specs.declared.Checked.the-variants as verdict
-use Rattle.table.proofs.Lengths.{Lengths, lengths-good, holds-count}
+use Rattle.table.proofs.Lengths.{Lengths, lengths-good, count-good, holds-count}
 
 -- rows that pass 11, 12 and 13
 pub record Good (t : List Row) : Type 0 where
@@ -44,14 +42,13 @@ pub record Passed (c : Columns) (count : ℕ) : Type 0 where
   pub good : Good (rows c count)
 
 pub check-passed : (c : Columns) (count : ℕ) {t : List Row} → checked c count ≡ answer t → Passed c count × (rows c count ≡ t)
-unfolding checked countBad
+unfolding checked
 check-passed c count e =
     let a = peel _ _ _ e in
     let b = or-none (lengthsBad c) _ (a .0) in
-    let d = or-none _ _ (b .1) in
+    let d = count-good _ _ (b .1) in
     let g = good-rows (rows c count) (a .1) in
-    let some : count ≡ 0 → ⊥ = eqb-false _ _ (d .0) in
-    (record { lengths = lengths-good c (b .0); some = omega arith; most = ltb-false _ _ (d .1); good = g .0 }, g .1)
+    (record { lengths = lengths-good c (b .0); some = d .0; most = d .1; good = g .0 }, g .1)
 
 pub passed-holds : {c : Columns} {count : ℕ} → Passed c count → Holds c count
 passed-holds p = holds-count (p .lengths) (p .most)

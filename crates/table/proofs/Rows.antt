@@ -59,9 +59,6 @@ rows-put t c = rows-laid t _ _ _ _
 pub holds-less : {c : Columns} {m n : ℕ} → Holds c n → m ≤ n → Holds c m
 holds-less h k = record { in-id = omega (arith, h .in-id); in-l = omega (arith, h .in-l); in-r = omega (arith, h .in-r); in-q = omega (arith, h .in-q) }
 
-pub holds-next : {c : Columns} {i n : ℕ} → Holds c n → i < n → Holds c (i + 1)
-holds-next h k = holds-less h (omega arith)
-
 -- one row put into columns is a store at the top of each
 set-first : (v : ℕ) (s : List ℕ) → 1 ≤ length s → set s 0 v ≡ v ∷ drop 1 s
 set-first v s h = set-split s 0 v (omega arith)

@@ -14,9 +14,10 @@ use Rattle.rules.proofs.Bools.{or-none, not-none}
 use Rattle.rules.proofs.Cases.{by-lt}
 use Rattle.boxes.specs.Boxes.{apart}
 use Rattle.table.specs.Columns.{Row, Columns, rowAt, rows}
-use Rattle.table.specs.Check.{someRow, somePair, lengthsBad, countBad, valueBad, sameId, rangesMeet, checked}
+use Rattle.table.specs.Check.{someRow, somePair, lengthsBad, valueBad, sameId, rangesMeet, checked}
 use Rattle.table.specs.Sound.{In, SoundRow, Apart, Sound}
 use Rattle.table.proofs.Tests.{none-more, no-pair-more, some-found, pair-found, none-yet, no-pair-yet}
+use Rattle.table.proofs.Lengths.{good-count}
 use Rattle.table.proofs.Passing.{Good, Passed, rows-good, check-passed}
 
 pub not-so : (b : Bool) → (b ≡ true → ⊥) → b ≡ false
@@ -146,12 +147,6 @@ sound-lengths c count s =
     let none : length (c .id) ≡ 0 → ⊥ = λ e. omega (arith, s .length-some) in
     rw (eq-eqb _ _ (s .length-l), eq-eqb _ _ (s .length-r), eq-eqb _ _ (s .length-q), ne-eqb _ _ none, le-ltb _ _ (s .length-most))
 
-sound-count : (c : Columns) (count : ℕ) → Sound c count → countBad c count ≡ false
-unfolding countBad
-sound-count c count s =
-    let none : count ≡ 0 → ⊥ = λ e. omega (arith, s .count-some) in
-    rw (ne-eqb _ _ none, le-ltb _ _ (s .count-most))
-
 -- A table that passes the check is sound, and a sound table passes it.
 pub check-sound : (c : Columns) (count : ℕ) → checked c count ≡ answer (rows c count) → Sound c count
 check-sound c count e = passed-sound c count (check-passed c count e .0)
@@ -159,7 +154,7 @@ check-sound c count e = passed-sound c count (check-passed c count e .0)
 pub sound-checks : (c : Columns) (count : ℕ) → Sound c count → checked c count ≡ answer (rows c count)
 unfolding checked
 sound-checks c count s =
-    rw (sound-lengths c count s, sound-count c count s) (rows-good (rows c count) (sound-good c count s))
+    rw (sound-lengths c count s, good-count _ _ (s .count-some) (s .count-most)) (rows-good (rows c count) (sound-good c count s))
 
 -- The check answers the rows in use or refuses.
 pub sound-or-refused : (c : Columns) (count : ℕ) → (checked c count ≡ answer (rows c count)) ⊎ ((n : ℕ) × (checked c count ≡ refused n))

@@ -25,8 +25,8 @@ lengthsBad c =
     || (eqb (length (c .id)) 0 || ltb mostRows (length (c .id)))
 
 -- 10: count 0 or above length
-unfoldable pub countBad : Columns → ℕ → Bool
-countBad c count = eqb count 0 || ltb (length (c .id)) count
+unfoldable pub countBad : ℕ → ℕ → Bool
+countBad n count = eqb count 0 || ltb n count
 
 -- 11: a value 0, or a range past the greatest number
 unfoldable pub valueBad : Row → Bool
@@ -51,4 +51,4 @@ soundRows t =
 
 -- the rows in use, once the columns have passed the check
 unfoldable pub checked : Columns → ℕ → Answer (List Row)
-checked c count = cond (lengthsBad c || countBad c count) (refused 10) (soundRows (rows c count))
+checked c count = cond (lengthsBad c || countBad (length (c .id)) count) (refused 10) (soundRows (rows c count))

@@ -34,6 +34,16 @@ pub fn lengths_bad(id: &[u32], l: &[u32], r: &[u32], q: &[u32]) -> bool
     false
 }
 
+// 10: count 0 or above length.
+pub fn count_bad(length: usize, count: usize) -> bool
+    ensures { λ t. ⌜ t ≡ countBad length count ⌝ }
+{
+    if count == 0 {
+        return true;
+    }
+    length < count
+}
+
 // 11: a value 0, or a range past the greatest number.
 fn value_bad(id: u32, l: u32, r: u32, q: u32) -> bool
     ensures { λ t. ⌜ t ≡ valueBad (record { id = id; l = l; r = r; q = q }) ⌝ }
@@ -90,16 +100,17 @@ fn id_above(id: &[u32], l: &[u32], r: &[u32], q: &[u32], i: usize) -> bool
     false
 }
 
+// From the last row up.
 fn some_ids_same(id: &[u32], l: &[u32], r: &[u32], q: &[u32], count: usize) -> bool
     requires { ⌜ Holds (columns (now id) (now l) (now r) (now q)) count ⌝ }
     ensures { λ t. ⌜ t ≡ somePair sameId (rows (columns (now (id .entry)) (now (l .entry)) (now (r .entry)) (now (q .entry))) count) ⌝ }
 {
-    let mut i = 0;
-    while i < count {
-        if id_above(id, l, r, q, i) {
+    let mut ids = count;
+    while 0 < ids {
+        ids -= 1;
+        if id_above(id, l, r, q, ids) {
             return true;
         }
-        i += 1;
     }
     false
 }
@@ -120,16 +131,17 @@ fn box_above(id: &[u32], l: &[u32], r: &[u32], q: &[u32], i: usize) -> bool
     false
 }
 
+// From the last row up.
 fn some_ranges_meet(id: &[u32], l: &[u32], r: &[u32], q: &[u32], count: usize) -> bool
     requires { ⌜ Holds (columns (now id) (now l) (now r) (now q)) count ⌝ }
     ensures { λ t. ⌜ t ≡ somePair rangesMeet (rows (columns (now (id .entry)) (now (l .entry)) (now (r .entry)) (now (q .entry))) count) ⌝ }
 {
-    let mut i = 0;
-    while i < count {
-        if box_above(id, l, r, q, i) {
+    let mut boxes = count;
+    while 0 < boxes {
+        boxes -= 1;
+        if box_above(id, l, r, q, boxes) {
             return true;
         }
-        i += 1;
     }
     false
 }
@@ -158,10 +170,7 @@ pub fn check_columns(id: &[u32], l: &[u32], r: &[u32], q: &[u32], count: usize) 
     if lengths_bad(id, l, r, q) {
         return Checked::Refused(Refusal::Columns);
     }
-    if count == 0 {
-        return Checked::Refused(Refusal::Columns);
-    }
-    if id.len() < count {
+    if count_bad(id.len(), count) {
         return Checked::Refused(Refusal::Columns);
     }
     check_rows(id, l, r, q, count)

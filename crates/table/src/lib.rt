@@ -4,6 +4,7 @@ mod making;
 mod ordering;
 
 pub use checking::check_columns;
+pub use checking::count_bad;
 pub use checking::lengths_bad;
 pub use making::fresh;
 pub use ordering::order;

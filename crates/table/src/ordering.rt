@@ -41,17 +41,17 @@ fn is_subgroup(gl: LValue, gr: RValue, hl: LValue, hr: RValue) -> bool
     false
 }
 
-// What is said of two groups of a table.
-fn compare(one: bool, up: bool, down: bool) -> Ordered
-    ensures { λ t. ⌜ orderedSays t ≡ answer (orderBy one up down) ⌝ }
+// What is said of two groups: the same, the first below the second as its subgroup, or the second below the first.
+fn compare(same_id: bool, first_below: bool, second_below: bool) -> Ordered
+    ensures { λ t. ⌜ orderedSays t ≡ answer (orderBy «same_id» «first_below» «second_below») ⌝ }
 {
-    if one {
+    if same_id {
         return Ordered::Same;
     }
-    if up {
+    if first_below {
         return Ordered::First;
     }
-    if down {
+    if second_below {
         return Ordered::Second;
     }
     Ordered::Incomparable

@@ -2,8 +2,8 @@
 use mathlib.Core.Path.{ap, sym, _∙_}
 use native.Mathlib.Omega.{arith}
 use Rattle.number.specs.Says.{drawnSays}
-use Rattle.table.proofs.Lengths.{lengths-good, holds-count}
-use Rattle.stored.proofs.Ending.{none-read, read-lengths, read-cut, read-none, read-many, read-rest}
+use Rattle.table.proofs.Lengths.{lengths-good, count-good, holds-count}
+use Rattle.stored.proofs.Ending.{none-read, read-lengths, read-cut, read-none, read-rest}
 use borrow.Author.Needs.{needs}
 use Rattle.stored.proofs.reading.read.Statement.{statement}
 use Rattle.stored.proofs.reading.read.Tie as tie
@@ -38,6 +38,9 @@ enum-known-value c = search needs
 cast-count : tie.Need-cast-count
 cast-count c = search needs
 
+count-bad-requires : tie.Need-count-bad-requires
+count-bad-requires c κs = search needs
+
 same-length-5 : tie.Need-same-length-5
 same-length-5 c = search needs
 
@@ -52,10 +55,18 @@ same-length-8 c = search needs
 
 returns-2 : tie.Need-returns-2
 returns-2 c =
-    let v = c .before .before in
+    let v = c .before .before .before in
     let n = v .before .before in
     let i = n .before in
-    none-read _ (read-none _ _ (sym (i .before .lengths-bad .ensures) ∙ i .if1 .left) (sym (n .number-at .ensures) ∙ ap drawnSays (v .value .given .1)) (c .if2 .taken))
+    none-read _ (read-none _ _ (sym (i .before .lengths-bad .ensures) ∙ i .if1 .left) (sym (n .number-at .ensures) ∙ ap drawnSays (v .value .given .1)) (sym (c .before .count-bad .ensures) ∙ c .if2 .taken))
+
+read-rows-requires : tie.Need-read-rows-requires
+read-rows-requires c κs =
+    let j = c .before .before .before .before in
+    let i = j .before .before .before .before .before .before in
+    let l = lengths-good _ (sym (i .before .lengths-bad .ensures) ∙ i .if1 .left) in
+    let k = count-good _ _ (sym (j .before .count-bad .ensures) ∙ j .if2 .left) in
+    (holds-count l (k .1), (k .0, omega (arith, l .most, k .1)))
 
 same-length-9 : tie.Need-same-length-9
 same-length-9 c = search needs
@@ -71,17 +82,9 @@ same-length-12 c = search needs
 
 returns-3 : tie.Need-returns-3
 returns-3 c =
-    let v = c .before .before .before in
-    let n = v .before .before in
+    let n = c .before .before .before in
     let i = n .before in
-    none-read _ (read-many _ _ (sym (i .before .lengths-bad .ensures) ∙ i .if1 .left) (sym (n .number-at .ensures) ∙ ap drawnSays (v .value .given .1)) (c .if3 .taken))
-
-read-rows-requires : tie.Need-read-rows-requires
-read-rows-requires c κs =
-    let j = c .before .before .before .before in
-    let i = j .before .before .before .before .before .before in
-    let l = lengths-good _ (sym (i .before .lengths-bad .ensures) ∙ i .if1 .left) in
-    (holds-count l (j .if3 .left), (omega (arith, j .before .if2 .left), omega (arith, l .most, j .if3 .left)))
+    none-read _ (read-cut _ _ (sym (i .before .lengths-bad .ensures) ∙ i .if1 .left) (sym (n .number-at .ensures) ∙ ap drawnSays (c .before .why .given .1)))
 
 same-length-13 : tie.Need-same-length-13
 same-length-13 c = search needs
@@ -97,30 +100,12 @@ same-length-16 c = search needs
 
 returns-4 : tie.Need-returns-4
 returns-4 c =
-    let n = c .before .before .before in
-    let i = n .before in
-    none-read _ (read-cut _ _ (sym (i .before .lengths-bad .ensures) ∙ i .if1 .left) (sym (n .number-at .ensures) ∙ ap drawnSays (c .before .why .given .1)))
-
-same-length-17 : tie.Need-same-length-17
-same-length-17 c = search needs
-
-same-length-18 : tie.Need-same-length-18
-same-length-18 c = search needs
-
-same-length-19 : tie.Need-same-length-19
-same-length-19 c = search needs
-
-same-length-20 : tie.Need-same-length-20
-same-length-20 c = search needs
-
-returns-5 : tie.Need-returns-5
-returns-5 c =
     let k = c .before .before .before .before .before .before .before .before in
     let j = k .before .before .before .before .before in
     let v = j .before .before .before in
     let n = v .before .before in
     let i = n .before in
-    let e = read-rest _ _ (sym (i .before .lengths-bad .ensures) ∙ i .if1 .left) (sym (n .number-at .ensures) ∙ ap drawnSays (v .value .given .1)) (j .before .if2 .left) (j .if3 .left) in
+    let e = read-rest _ _ (sym (i .before .lengths-bad .ensures) ∙ i .if1 .left) (sym (n .number-at .ensures) ∙ ap drawnSays (v .value .given .1)) (sym (j .before .count-bad .ensures) ∙ j .if2 .left) in
     (rw e (k .read-rows .ensures .0), rw e (k .read-rows .ensures .1))
 
 pub read-spec : {M : Type 1} → statement M
@@ -137,24 +122,20 @@ read-spec =
     enum-known-why
     enum-known-value
     cast-count
+    count-bad-requires
     same-length-5
     same-length-6
     same-length-7
     same-length-8
     returns-2
+    read-rows-requires
     same-length-9
     same-length-10
     same-length-11
     same-length-12
     returns-3
-    read-rows-requires
     same-length-13
     same-length-14
     same-length-15
     same-length-16
-    returns-4
-    same-length-17
-    same-length-18
-    same-length-19
-    same-length-20
-    returns-5)
+    returns-4)
