@@ -14,10 +14,11 @@ use Rattle.rules.proofs.Cases.{by-lt}
 use Rattle.table.specs.Columns.{Row, Columns, overlay, rows, put, counted, afterwards}
 use Rattle.table.proofs.Rows.{rows-length}
 use Rattle.refine.specs.Refine.{refined}
+use Rattle.refine.proofs.Fitting.{refined-fits}
 use Rattle.growth.specs.Lines.{lineText, tableText}
 use Rattle.growth.specs.Growth.{Part, partAt, bytesIn, Begun, begun, Growth, grown, headed, countAfter, requestsFrom, listed, growth, growText, growRoom, growAnswer, lineRoom, tableRoom}
 use Rattle.growth.proofs.Printing.{line-most, rows-most, table-count}
-use Rattle.growth.proofs.Reading.{part-in, counted-answer, refined-fits, begun-in}
+use Rattle.growth.proofs.Reading.{part-in, counted-answer, begun-in}
 use Rattle.growth.proofs.Carrying.{stop, bad, goes-on, count-within}
 use Rattle.growth.proofs.Growing.{growth-bad, growth-good, listed-text}
 

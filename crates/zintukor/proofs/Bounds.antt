@@ -1,8 +1,8 @@
 -- The counts that are encoded are small: a new count is at most the most rows, and so many rows have few bytes.
-use mathlib.Core.Path.{_≡_, refl, ap, sym, _∙_}
+use mathlib.Core.Path.{_≡_, refl, ap}
 use mathlib.Core.Bool.{Bool, true, false, cond, _||_}
-use mathlib.Core.List.{List, _++_}
-use Prim.Native.Nat.{ℕ, zero, suc, _+_, _*_, _≤_}
+use mathlib.Core.List.{List}
+use Prim.Native.Nat.{ℕ, _+_, _*_, _≤_}
 use native.Mathlib.Omega.{arith}
 use lib.Dec.{eqb, ltb}
 use lib.ListN.{length, length-append}
@@ -12,23 +12,20 @@ use Rattle.rules.specs.Limits.{greatest, mostRows}
 use Rattle.rules.specs.Buffers.{room, written}
 use Rattle.rules.proofs.Answers.{same-answer, never-refused, peel}
 use Rattle.rules.proofs.Bools.{or-none}
-use Rattle.number.specs.Number.{Number, numberAt, bytesOf}
+use Rattle.number.specs.Number.{numberAt, bytesOf}
 use Rattle.number.proofs.Laws.{number-count}
-use Rattle.request.specs.Reading.{requestOf}
-use Rattle.request.specs.Acceptance.{accepted}
-use Rattle.request.proofs.ReadLaws.{then-answer, wanted}
-use Rattle.request.proofs.Accepting.{request-accepted}
-use Rattle.table.specs.Columns.{Row, Columns, rows, counted}
-use Rattle.table.specs.Check.{lengthsBad, countBad, soundRows, checked}
+use Rattle.request.proofs.ReadLaws.{then-answer}
+use Rattle.table.specs.Columns.{Row, Columns, counted}
+use Rattle.table.specs.Check.{lengthsBad, countBad, checked}
 use Rattle.table.specs.Fresh.{freshRows}
 use Rattle.table.proofs.Lengths.{lengths-good}
-use Rattle.table.proofs.Passing.{check-passed, good-rows, rows-good}
+use Rattle.table.proofs.Passing.{check-passed, good-rows}
 use Rattle.table.proofs.Rows.{rows-length}
-use Rattle.refine.specs.Refine.{groupsOf, refineRows, explodedRows, refined}
-use Rattle.refine.proofs.Refinement.{promises}
-use Rattle.stored.specs.Stored.{RowRead, Rows, rowRead, rowsAt, rowsToEnd, readRows, rowsBytes, tableBytes, storeAnswer}
-use Rattle.stored.proofs.Filling.{rows-suc}
+use Rattle.refine.specs.Refine.{refined}
+use Rattle.refine.proofs.Fitting.{refined-most}
+use Rattle.stored.specs.Stored.{rowsAt, rowsToEnd, readRows, rowsBytes, tableBytes, storeAnswer}
 use Rattle.stored.proofs.Writing.{rows-most}
+use Rattle.stored.proofs.Laws.{rows-count}
 use Rattle.zintukor.specs.Small.{Small}
 
 -- what a small answer holds
@@ -54,30 +51,10 @@ fresh-small c group quota = counted-small _ (fresh-most c group quota)
 
 -- ## Refine: there is room for the rows
 
-refined-most : (c : Columns) (count : ℕ) (bytes : List ℕ) (t : List Row) → refined c count bytes ≡ answer t → length t ≤ mostRows
-unfolding refined explodedRows
-refined-most c count bytes t e =
-    let a = then-answer (checked c count) _ e in
-    let b = then-answer (requestOf bytes) _ (a .2) in
-    let d = then-answer (accepted (length (c .id)) (groupsOf (a .0)) (b .0)) _ (b .2) in
-    let p = check-passed c count (a .1) in
-    let s : soundRows (a .0) ≡ answer (a .0) = rw (p .1) at (rows-good (rows c count) (p .0 .good)) in
-    let q = request-accepted (length (c .id)) (groupsOf (a .0)) (b .0) (d .1) .1 in
-    let m = promises (length (c .id)) (a .0) bytes (b .0) s (b .1) (d .1 ∙ ap answer (sym q)) .refined-fits in
-    omega (arith, ap length (same-answer (d .2)), p .0 .lengths .most)
-
 pub refined-small : (c : Columns) (count : ℕ) (bytes : List ℕ) → Small (counted (refined c count bytes))
 refined-small c count bytes = counted-small _ (refined-most c count bytes)
 
 -- ## Reading: as many rows as the count says
-
-rows-count : (n : ℕ) (bytes : List ℕ) (at : ℕ) (s : Rows) → rowsAt n bytes at ≡ answer s → length (s .rows) ≡ n
-unfolding rowsAt
-rows-count zero bytes at s e = rw (← (same-answer e))
-rows-count (suc n) bytes at s e =
-    let a = then-answer (rowRead bytes at) _ (sym (rows-suc n bytes at) ∙ e) in
-    let b = then-answer (rowsAt n bytes (a .0 .next)) _ (a .2) in
-    rw (← (same-answer (b .2))) (ap suc (rows-count n bytes (a .0 .next) (b .0) (b .1)))
 
 read-most : (c : Columns) (bytes : List ℕ) (t : List Row) → readRows c bytes ≡ answer t → length t ≤ mostRows
 unfolding readRows rowsToEnd countBad
