@@ -12,27 +12,27 @@ use rules::GREATEST;
 use table::Counted;
 use table::Ordered;
 
-// The kinds. Value: the refusal's number.
+// The kinds. A refusal; the value is its number.
 const REFUSED: u32 = 0;
-// Value: the new count, or the byte count.
+// The value is the new count, or the byte count.
 const COUNT: u32 = 1;
-// Value 0: one group named twice.
+// One group named twice; the value is 0.
 const SAME: u32 = 2;
-// Value 0: the first is a subgroup of the second.
+// The first is a subgroup of the second; 0.
 const FIRST: u32 = 3;
-// Value 0: the second is a subgroup of the first.
+// The second is a subgroup of the first; 0.
 const SECOND: u32 = 4;
-// Value 0.
+// Neither is a subgroup of the other; 0.
 const INCOMPARABLE: u32 = 5;
-// Value 0.
+// On, without an end; 0.
 const ON_OPEN: u32 = 6;
-// Value: the last day.
+// On; the last day.
 const ON_UNTIL: u32 = 7;
-// Value: the last day.
+// Ended; the last day.
 const ENDED: u32 = 8;
-// Value: the first day.
+// Yet to begin; the first day.
 const AHEAD: u32 = 9;
-// Value 0.
+// No grant applies; 0.
 const NEVER: u32 = 10;
 
 // A kind and a value in one number: the value below, the kind above.
