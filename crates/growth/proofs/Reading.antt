@@ -11,16 +11,12 @@ use Rattle.rules.specs.Answers.{Answer, answer, refused}
 use Rattle.rules.proofs.Answers.{same-answer, peel, then-answer}
 use Rattle.number.specs.Number.{found, numberAt}
 use Rattle.number.proofs.Laws.{number-ends}
-use Rattle.request.specs.Reading.{requestOf}
-use Rattle.request.specs.Acceptance.{accepted}
-use Rattle.request.proofs.Accepting.{request-accepted}
 use Rattle.table.specs.Columns.{Row, Columns, rows, put, counted}
-use Rattle.table.specs.Check.{lengthsBad, checked, soundRows}
+use Rattle.table.specs.Check.{lengthsBad}
 use Rattle.table.specs.Fresh.{freshRows}
 use Rattle.table.proofs.Lengths.{Lengths, lengths-good}
-use Rattle.table.proofs.Passing.{check-passed, rows-good}
-use Rattle.refine.specs.Refine.{groupsOf, explodedRows, refined}
-use Rattle.refine.proofs.Refinement.{promises-of-rows}
+use Rattle.refine.specs.Refine.{refined}
+use Rattle.refine.proofs.Fitting.{refined-fits}
 use Rattle.growth.specs.Growth.{Part, partAt, Begun, begun, begunAt, begunTable}
 use Rattle.growth.specs.Says.{Countable, Fitting}
 
@@ -55,20 +51,7 @@ module _ (log : List ℕ) (at : ℕ) where
 
 -- ## What a request leads to
 
--- there is room for the rows of an accepted request
-pub refined-fits : (c : Columns) (count : ℕ) (bytes : List ℕ) {t : List Row} → refined c count bytes ≡ answer t → length t ≤ length (c .id)
-unfolding refined explodedRows
-refined-fits c count bytes {t} e =
-    let a = then-answer (checked c count) _ e in
-    let b = then-answer (requestOf bytes) _ (a .2) in
-    let d = then-answer (accepted (length (c .id)) (groupsOf (a .0)) (b .0)) _ (b .2) in
-    let p = check-passed c count (a .1) in
-    let s : soundRows (a .0) ≡ answer (a .0) = rw (p .1) at (rows-good (rows c count) (p .0 .good)) in
-    let q = request-accepted (length (c .id)) (groupsOf (a .0)) (b .0) (d .1) .1 in
-    let m = promises-of-rows (length (c .id)) (a .0) bytes (b .0) s (b .1) (d .1 ∙ ap answer (sym q)) .refined-fits in
-    omega (arith, ap length (same-answer (d .2)))
-
--- and so for their count
+-- there is room for the count of an accepted request
 pub refined-within : (c : Columns) (count : ℕ) (bytes : List ℕ) {n : ℕ} → counted (refined c count bytes) ≡ answer n → n ≤ length (c .id)
 refined-within c count bytes e = let a = then-answer (refined c count bytes) _ e in omega (arith, refined-fits c count bytes (a .1), same-answer (a .2))
 

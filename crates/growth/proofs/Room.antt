@@ -13,11 +13,12 @@ use Rattle.rules.proofs.Cases.{by-lt}
 use Rattle.table.specs.Columns.{Row, Columns, rows, put, counted, afterwards}
 use Rattle.table.proofs.Rows.{rows-length}
 use Rattle.refine.specs.Refine.{refined}
+use Rattle.refine.proofs.Fitting.{refined-fits}
 use Rattle.refine.proofs.Held.{put-length}
 use Rattle.growth.specs.Lines.{lineText, tableText}
 use Rattle.growth.specs.Growth.{partAt, bytesIn, begun, Growth, grown, countAfter, requestsFrom, growText, growRoom, growAnswer, lineRoom, tableRoom}
 use Rattle.growth.proofs.Printing.{line-most, rows-most, table-count}
-use Rattle.growth.proofs.Reading.{part-in, refined-fits, refined-within, begun-in}
+use Rattle.growth.proofs.Reading.{part-in, refined-within, begun-in}
 use Rattle.growth.proofs.Carrying.{stop, bad, goes-on, count-within}
 use Rattle.growth.proofs.Growing.{growth-bad, growth-good, listed-text}
 

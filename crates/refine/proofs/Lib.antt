@@ -5,6 +5,7 @@ pub mod Soundness
 pub mod After
 pub mod Cutting
 pub mod Refinement
+pub mod Fitting
 pub mod ReadingLaws
 pub mod NumberingLaws
 pub mod PlacingLaws

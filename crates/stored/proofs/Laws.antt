@@ -128,6 +128,15 @@ pub then-found : {A B : Type 0} (a : Answer A) (f : A → Answer B) {y : B} → 
 then-found (answer x) f e = (x, refl, e)
 then-found (refused n) f e = never-refused e
 
+-- as many rows are read as the count says
+pub rows-count : (n : ℕ) (bytes : List ℕ) (at : ℕ) (s : Rows) → rowsAt n bytes at ≡ answer s → length (s .rows) ≡ n
+unfolding rowsAt
+rows-count zero bytes at s e = rw (← (same-answer e))
+rows-count (suc n) bytes at s e =
+    let a = then-found (rowRead bytes at) _ (sym (rows-suc n bytes at) ∙ e) in
+    let b = then-found (rowsAt n bytes (a .0 .next)) _ (a .2) in
+    rw (← (same-answer (b .2))) (ap suc (rows-count n bytes (a .0 .next) (b .0) (b .1)))
+
 -- what reads in at a position stands there, and the next position is after it
 record Stands (bytes : List ℕ) (at next : ℕ) (part : List ℕ) : Type 0 where
   ends : next ≡ at + length part
@@ -161,16 +170,14 @@ row-there bytes at w bs e =
     (both-there (number-there bytes (a .0 .next) (b .0) bs (b .1))
     (both-there (number-there bytes (b .0 .next) (d .0) bs (d .1)) (number-there bytes (d .0 .next) (g .0) bs (g .1)))))
 
-rows-there : (n : ℕ) (bytes : List ℕ) (at : ℕ) (s : Rows) → Bytes bytes → rowsAt n bytes at ≡ answer s
-    → (length (s .rows) ≡ n) × Stands bytes at (s .next) (rowsBytes (s .rows))
+rows-there : (n : ℕ) (bytes : List ℕ) (at : ℕ) (s : Rows) → Bytes bytes → rowsAt n bytes at ≡ answer s → Stands bytes at (s .next) (rowsBytes (s .rows))
 unfolding rowsAt rowsBytes
-rows-there zero bytes at s bs e =
-    rw (← (same-answer e)) (refl, record { ends = omega arith; stands = refl })
+rows-there zero bytes at s bs e = rw (← (same-answer e)) (record { ends = omega arith; stands = refl })
 rows-there (suc n) bytes at s bs e =
     let a = then-found (rowRead bytes at) _ (sym (rows-suc n bytes at) ∙ e) in
     let b = then-found (rowsAt n bytes (a .0 .next)) _ (a .2) in
-    let i = rows-there n bytes (a .0 .next) (b .0) bs (b .1) in
-    rw (← (same-answer (b .2))) (ap suc (i .0), both-there (row-there bytes at (a .0) bs (a .1)) (i .1))
+    rw (← (same-answer (b .2)))
+    (both-there (row-there bytes at (a .0) bs (a .1)) (rows-there n bytes (a .0 .next) (b .0) bs (b .1)))
 
 -- what a read that is answered found
 pub record Read (d : Columns) (bytes : List ℕ) (t : List Row) : Type 0 where
@@ -190,18 +197,19 @@ read-found d bytes {t} bs e =
     let s = then-found (rowsAt (n .0 .value) bytes (n .0 .next)) _ (b .1) in
     let g = peel (ltb (s .0 .next) (length bytes)) _ _ (s .2) in
     let r = good-rows (s .0 .rows) (g .1) in
+    let m = rows-count (n .0 .value) bytes (n .0 .next) (s .0) (s .1) in
     let h = rows-there (n .0 .value) bytes (n .0 .next) (s .0) bs (s .1) in
-    let all = both-there (number-there bytes 0 (n .0) bs (n .1)) (h .1) in
+    let all = both-there (number-there bytes 0 (n .0) bs (n .1)) h in
     let none = drop-of-length-le bytes (ltb-false (s .0 .next) (length bytes) (g .0)) in
     rw (← (r .1))
     (record {
       lengths = a .0;
-      some = omega (arith, k .0, h .0);
-      most = omega (arith, k .1, h .0);
+      some = omega (arith, k .0, m);
+      most = omega (arith, k .1, m);
       sound = rows-good (s .0 .rows) (r .0);
       whole =
           all .stands
-          ∙ ap₂ (λ (k : ℕ) (u : List ℕ). (bytesOf k ++ rowsBytes (s .0 .rows)) ++ u) (sym (h .0)) none
+          ∙ ap₂ (λ (k : ℕ) (u : List ℕ). (bytesOf k ++ rowsBytes (s .0 .rows)) ++ u) (sym m) none
           ∙ append-nil (bytesOf (length (s .0 .rows)) ++ rowsBytes (s .0 .rows));
     })
 

@@ -1,0 +1,97 @@
+-- The counts that are encoded are small: a new count is at most the most rows, and so many rows have few bytes.
+use mathlib.Core.Path.{_≡_, refl, ap}
+use mathlib.Core.Bool.{Bool, true, false, cond, _||_}
+use mathlib.Core.List.{List}
+use Prim.Native.Nat.{ℕ, _+_, _*_, _≤_}
+use native.Mathlib.Omega.{arith}
+use lib.Dec.{eqb, ltb}
+use lib.ListN.{length, length-append}
+use borrow.Author.Tests.{ltb-false}
+use Rattle.rules.specs.Answers.{Answer, answer, refused, then}
+use Rattle.rules.specs.Limits.{greatest, mostRows}
+use Rattle.rules.specs.Buffers.{room, written}
+use Rattle.rules.proofs.Answers.{same-answer, never-refused, peel}
+use Rattle.rules.proofs.Bools.{or-none}
+use Rattle.number.specs.Number.{numberAt, bytesOf}
+use Rattle.number.proofs.Laws.{number-count}
+use Rattle.request.proofs.ReadLaws.{then-answer}
+use Rattle.table.specs.Columns.{Row, Columns, counted}
+use Rattle.table.specs.Check.{lengthsBad, countBad, checked}
+use Rattle.table.specs.Fresh.{freshRows}
+use Rattle.table.proofs.Lengths.{lengths-good}
+use Rattle.table.proofs.Passing.{check-passed, good-rows}
+use Rattle.table.proofs.Rows.{rows-length}
+use Rattle.refine.specs.Refine.{refined}
+use Rattle.refine.proofs.Fitting.{refined-most}
+use Rattle.stored.specs.Stored.{rowsAt, rowsToEnd, readRows, rowsBytes, tableBytes, storeAnswer}
+use Rattle.stored.proofs.Writing.{rows-most}
+use Rattle.stored.proofs.Laws.{rows-count}
+use Rattle.zintukor.specs.Small.{Small}
+
+-- what a small answer holds
+pub small-count : (a : Answer ℕ) {n : ℕ} → Small a → a ≡ answer n → n ≤ greatest
+small-count (answer m) h e = omega (arith, same-answer e)
+small-count (refused m) h e = never-refused e
+
+counted-small : (a : Answer (List Row)) → ((t : List Row) → a ≡ answer t → length t ≤ mostRows) → Small (counted a)
+counted-small (answer t) h = omega (arith, h t refl)
+counted-small (refused n) h = tt
+
+-- ## Fresh: one row
+
+fresh-most : (c : Columns) (group quota : ℕ) (t : List Row) → freshRows c group quota ≡ answer t → length t ≤ mostRows
+unfolding freshRows
+fresh-most c group quota t e =
+    let a = peel (lengthsBad c) _ _ e in
+    let b = peel (eqb group 0 || eqb quota 0) _ _ (a .1) in
+    omega (arith, ap length (same-answer (b .1)))
+
+pub fresh-small : (c : Columns) (group quota : ℕ) → Small (counted (freshRows c group quota))
+fresh-small c group quota = counted-small _ (fresh-most c group quota)
+
+-- ## Refine: there is room for the rows
+
+pub refined-small : (c : Columns) (count : ℕ) (bytes : List ℕ) → Small (counted (refined c count bytes))
+refined-small c count bytes = counted-small _ (refined-most c count bytes)
+
+-- ## Reading: as many rows as the count says
+
+read-most : (c : Columns) (bytes : List ℕ) (t : List Row) → readRows c bytes ≡ answer t → length t ≤ mostRows
+unfolding readRows rowsToEnd countBad
+read-most c bytes t e =
+    let a = peel (lengthsBad c) _ _ e in
+    let n = then-answer (numberAt bytes 0) _ (a .1) in
+    let b = peel (countBad c (n .0 .value)) _ _ (n .2) in
+    let s = then-answer (rowsAt (n .0 .value) bytes (n .0 .next)) _ (b .1) in
+    let g = peel (ltb (s .0 .next) (length bytes)) _ _ (s .2) in
+    let r = good-rows (s .0 .rows) (g .1) .1 in
+    let k = rows-count (n .0 .value) bytes (n .0 .next) (s .0) (s .1) in
+    let m : n .0 .value ≤ length (c .id) = ltb-false _ _ (or-none (eqb (n .0 .value) 0) _ (b .0) .1) in
+    omega (arith, ap length r, lengths-good c (a .0) .most)
+
+pub read-small : (c : Columns) (bytes : List ℕ) → Small (counted (readRows c bytes))
+read-small c bytes = counted-small _ (read-most c bytes)
+
+-- ## Storing: at most 5 bytes for the count and 20 for each row
+
+table-most : (t : List Row) → length (tableBytes t) ≤ 5 + 20 * length t
+unfolding tableBytes
+table-most t = omega (arith, length-append (bytesOf (length t)) (rowsBytes t), number-count (length t), rows-most t)
+
+written-small : (buffer : List ℕ) (t : List Row) → length t ≤ mostRows → Small (written buffer 0 (tableBytes t))
+unfolding written
+written-small buffer t h = go (room buffer 0 (tableBytes t))
+  where
+    go : (b : Bool) → Small (cond b (answer (length (tableBytes t))) (refused 30))
+    go true = omega (arith, table-most t)
+    go false = tt
+
+pub store-small : (c : Columns) (count : ℕ) (buffer : List ℕ) → Small (storeAnswer c count buffer)
+unfolding storeAnswer
+store-small c count buffer = go (checked c count) refl
+  where
+    go : (a : Answer (List Row)) → checked c count ≡ a → Small (then a λ t. written buffer 0 (tableBytes t))
+    go (answer t) e =
+        let p = check-passed c count e in
+        written-small buffer t (omega (arith, ap length (p .1), rows-length c 0 count, p .0 .most, p .0 .lengths .most))
+    go (refused n) e = tt

@@ -1,0 +1,110 @@
+// The calls for a host in C or Rust (include/zintukor.h). Each answers one number: kind * 4294967296 + value.
+// None has a precondition, keeps state or allocates; a refused call leaves each column and buffer as it found it.
+mod codes;
+
+ghost use mathlib.Core.Path.{_≡_};
+ghost use Rattle.table.specs.Columns.{columns, counted, afterwards};
+ghost use Rattle.table.specs.Check.{checked};
+ghost use Rattle.table.specs.Fresh.{freshRows};
+ghost use Rattle.table.specs.Order.{order as tableOrder};
+ghost use Rattle.refine.specs.Refine.{refined};
+ghost use Rattle.grant.specs.Decision.{decided};
+ghost use Rattle.stored.specs.Stored.{storeAnswer, storeBuffer, readRows};
+ghost use Rattle.zintukor.specs.Codes.{countCode, orderCode, decisionCode};
+use codes::count_code;
+use codes::decision_code;
+use codes::order_code;
+use codes::written_code;
+use grant::decide;
+use refine::refine;
+use stored::read;
+use stored::store;
+use table::fresh;
+use table::order;
+
+// A fresh table: row 0 is the group at (1, 1) with the quota.
+#[no_mangle]
+pub extern "C" fn zintukor_fresh(
+    id: &mut [u32],
+    l: &mut [u32],
+    r: &mut [u32],
+    q: &mut [u32],
+    group: u32,
+    quota: u32,
+) -> u64
+    ensures { λ t. ⌜ t ≡ countCode (counted (freshRows (columns (now (id .entry)) (now (l .entry)) (now (r .entry)) (now (q .entry))) group quota)) ⌝ }
+    ensures { λ t. ⌜ columns (now (id .exit)) (now (l .exit)) (now (r .exit)) (now (q .exit)) ≡ afterwards (freshRows (columns (now (id .entry)) (now (l .entry)) (now (r .entry)) (now (q .entry))) group quota) (columns (now (id .entry)) (now (l .entry)) (now (r .entry)) (now (q .entry))) ⌝ }
+{
+    count_code(fresh(id, l, r, q, group, quota))
+}
+
+// Explodes a group as the request's bytes say.
+#[no_mangle]
+pub extern "C" fn zintukor_refine(
+    id: &mut [u32],
+    l: &mut [u32],
+    r: &mut [u32],
+    q: &mut [u32],
+    count: usize,
+    request: &[u8],
+) -> u64
+    ensures { λ t. ⌜ t ≡ countCode (counted (refined (columns (now (id .entry)) (now (l .entry)) (now (r .entry)) (now (q .entry))) count (now (request .entry)))) ⌝ }
+    ensures { λ t. ⌜ columns (now (id .exit)) (now (l .exit)) (now (r .exit)) (now (q .exit)) ≡ afterwards (refined (columns (now (id .entry)) (now (l .entry)) (now (r .entry)) (now (q .entry))) count (now (request .entry))) (columns (now (id .entry)) (now (l .entry)) (now (r .entry)) (now (q .entry))) ⌝ }
+{
+    count_code(refine(id, l, r, q, count, request))
+}
+
+// The order of two groups.
+#[no_mangle]
+pub extern "C" fn zintukor_order(
+    id: &[u32],
+    l: &[u32],
+    r: &[u32],
+    q: &[u32],
+    count: usize,
+    first: u32,
+    second: u32,
+) -> u64
+    ensures { λ t. ⌜ t ≡ orderCode (tableOrder (columns (now (id .entry)) (now (l .entry)) (now (r .entry)) (now (q .entry))) count first second) ⌝ }
+{
+    order_code(order(id, l, r, q, count, first, second))
+}
+
+// The decision on a feature for a pass (l, r) and a day.
+#[no_mangle]
+pub extern "C" fn zintukor_decide(feature: u32, l: u32, r: u32, day: u32, grants: &[u8]) -> u64
+    ensures { λ t. ⌜ t ≡ decisionCode (decided feature l r day (now (grants .entry))) ⌝ }
+{
+    decision_code(decide(feature, l, r, day, grants))
+}
+
+// Stores a table as bytes.
+#[no_mangle]
+pub extern "C" fn zintukor_store(
+    id: &[u32],
+    l: &[u32],
+    r: &[u32],
+    q: &[u32],
+    count: usize,
+    buffer: &mut [u8],
+) -> u64
+    ensures { λ t. ⌜ t ≡ countCode (storeAnswer (columns (now (id .entry)) (now (l .entry)) (now (r .entry)) (now (q .entry))) count (now (buffer .entry))) ⌝ }
+    ensures { λ t. ⌜ now (buffer .exit) ≡ storeBuffer (checked (columns (now (id .entry)) (now (l .entry)) (now (r .entry)) (now (q .entry))) count) (now (buffer .entry)) ⌝ }
+{
+    written_code(store(id, l, r, q, count, buffer))
+}
+
+// Reads a stored table in.
+#[no_mangle]
+pub extern "C" fn zintukor_read(
+    id: &mut [u32],
+    l: &mut [u32],
+    r: &mut [u32],
+    q: &mut [u32],
+    bytes: &[u8],
+) -> u64
+    ensures { λ t. ⌜ t ≡ countCode (counted (readRows (columns (now (id .entry)) (now (l .entry)) (now (r .entry)) (now (q .entry))) (now (bytes .entry)))) ⌝ }
+    ensures { λ t. ⌜ columns (now (id .exit)) (now (l .exit)) (now (r .exit)) (now (q .exit)) ≡ afterwards (readRows (columns (now (id .entry)) (now (l .entry)) (now (r .entry)) (now (q .entry))) (now (bytes .entry))) (columns (now (id .entry)) (now (l .entry)) (now (r .entry)) (now (q .entry))) ⌝ }
+{
+    count_code(read(id, l, r, q, bytes))
+}
