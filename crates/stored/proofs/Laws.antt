@@ -11,7 +11,7 @@ use borrow.Author.Tests.{eqb-false, ltb-false, le-ltb}
 use Rattle.rules.specs.Answers.{Answer, answer, refused, then}
 use Rattle.rules.specs.Limits.{greatest}
 use Rattle.rules.specs.Buffers.{Bytes}
-use Rattle.rules.proofs.Answers.{same-answer, never-refused, peel}
+use Rattle.rules.proofs.Answers.{same-answer, peel, then-answer}
 use Rattle.rules.proofs.Bools.{or-none}
 use Rattle.number.specs.Number.{Number, numberAt, bytesOf}
 use Rattle.number.proofs.Laws.{number-back, number-stands, number-ends}
@@ -124,17 +124,13 @@ stored-back c count {t} d h e good most =
 
 -- ## Read, then stored
 
-pub then-found : {A B : Type 0} (a : Answer A) (f : A → Answer B) {y : B} → then a f ≡ answer y → (x : A) × (a ≡ answer x) × (f x ≡ answer y)
-then-found (answer x) f e = (x, refl, e)
-then-found (refused n) f e = never-refused e
-
 -- as many rows are read as the count says
 pub rows-count : (n : ℕ) (bytes : List ℕ) (at : ℕ) (s : Rows) → rowsAt n bytes at ≡ answer s → length (s .rows) ≡ n
 unfolding rowsAt
 rows-count zero bytes at s e = rw (← (same-answer e))
 rows-count (suc n) bytes at s e =
-    let a = then-found (rowRead bytes at) _ (sym (rows-suc n bytes at) ∙ e) in
-    let b = then-found (rowsAt n bytes (a .0 .next)) _ (a .2) in
+    let a = then-answer (rowRead bytes at) _ (sym (rows-suc n bytes at) ∙ e) in
+    let b = then-answer (rowsAt n bytes (a .0 .next)) _ (a .2) in
     rw (← (same-answer (b .2))) (ap suc (rows-count n bytes (a .0 .next) (b .0) (b .1)))
 
 -- what reads in at a position stands there, and the next position is after it
@@ -161,10 +157,10 @@ both-there {bytes} {at} {mid} {next} {a} {b} s t =
 row-there : (bytes : List ℕ) (at : ℕ) (w : RowRead) → Bytes bytes → rowRead bytes at ≡ answer w → Stands bytes at (w .next) (rowBytes (w .row))
 unfolding rowRead rowBytes
 row-there bytes at w bs e =
-    let a = then-found (numberAt bytes at) _ e in
-    let b = then-found (numberAt bytes (a .0 .next)) _ (a .2) in
-    let d = then-found (numberAt bytes (b .0 .next)) _ (b .2) in
-    let g = then-found (numberAt bytes (d .0 .next)) _ (d .2) in
+    let a = then-answer (numberAt bytes at) _ e in
+    let b = then-answer (numberAt bytes (a .0 .next)) _ (a .2) in
+    let d = then-answer (numberAt bytes (b .0 .next)) _ (b .2) in
+    let g = then-answer (numberAt bytes (d .0 .next)) _ (d .2) in
     rw (← (same-answer (g .2)))
     (both-there (number-there bytes at (a .0) bs (a .1))
     (both-there (number-there bytes (a .0 .next) (b .0) bs (b .1))
@@ -174,8 +170,8 @@ rows-there : (n : ℕ) (bytes : List ℕ) (at : ℕ) (s : Rows) → Bytes bytes 
 unfolding rowsAt rowsBytes
 rows-there zero bytes at s bs e = rw (← (same-answer e)) (record { ends = omega arith; stands = refl })
 rows-there (suc n) bytes at s bs e =
-    let a = then-found (rowRead bytes at) _ (sym (rows-suc n bytes at) ∙ e) in
-    let b = then-found (rowsAt n bytes (a .0 .next)) _ (a .2) in
+    let a = then-answer (rowRead bytes at) _ (sym (rows-suc n bytes at) ∙ e) in
+    let b = then-answer (rowsAt n bytes (a .0 .next)) _ (a .2) in
     rw (← (same-answer (b .2)))
     (both-there (row-there bytes at (a .0) bs (a .1)) (rows-there n bytes (a .0 .next) (b .0) bs (b .1)))
 
@@ -191,10 +187,10 @@ pub read-found : (d : Columns) (bytes : List ℕ) {t : List Row} → Bytes bytes
 unfolding readRows tableBytes rowsToEnd
 read-found d bytes {t} bs e =
     let a = peel (lengthsBad d) _ _ e in
-    let n = then-found (numberAt bytes 0) _ (a .1) in
+    let n = then-answer (numberAt bytes 0) _ (a .1) in
     let b = peel (countBad (length (d .id)) (n .0 .value)) _ _ (n .2) in
     let k = count-good _ _ (b .0) in
-    let s = then-found (rowsAt (n .0 .value) bytes (n .0 .next)) _ (b .1) in
+    let s = then-answer (rowsAt (n .0 .value) bytes (n .0 .next)) _ (b .1) in
     let g = peel (ltb (s .0 .next) (length bytes)) _ _ (s .2) in
     let r = good-rows (s .0 .rows) (g .1) in
     let m = rows-count (n .0 .value) bytes (n .0 .next) (s .0) (s .1) in

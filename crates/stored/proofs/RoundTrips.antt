@@ -5,7 +5,7 @@ use Prim.Native.Nat.{ℕ, _≤_}
 use native.Mathlib.Omega.{arith}
 use lib.ListN.{length}
 use Rattle.rules.specs.Answers.{Answer, answer}
-use Rattle.rules.proofs.Answers.{same-answer}
+use Rattle.rules.proofs.Answers.{same-answer, then-answer}
 use Rattle.rules.proofs.Buffers.{written-all, written-room, after-start}
 use Rattle.table.specs.Columns.{Row, Columns, rows, counted, afterwards}
 use Rattle.table.specs.Check.{checked}
@@ -14,7 +14,7 @@ use Rattle.table.proofs.Lengths.{good-count, put-length, put-lengths}
 use Rattle.table.proofs.Passing.{check-passed}
 use Rattle.stored.specs.Stored.{tableBytes, storeAnswer, storeBuffer, readRows}
 use Rattle.stored.specs.RoundTrips.{storedBytes, StoreAccepted, ReadsBack, ReadAccepted, WrittenBack}
-use Rattle.stored.proofs.Laws.{then-found, Read, stored-back, read-found}
+use Rattle.stored.proofs.Laws.{Read, stored-back, read-found}
 
 -- the bytes of rows that passed the check stand at the buffer's start
 bytes-stored : (c : Columns) (count : ℕ) (buffer : List ℕ) {t : List Row} {n : ℕ} → checked c count ≡ answer t → length (tableBytes t) ≡ n → n ≤ length buffer
@@ -41,7 +41,7 @@ module _ (d : Columns) {a : Answer (List Row)} {t : List Row} {n : ℕ} (e : a �
 pub reads-back : (c : Columns) (count : ℕ) (buffer : List ℕ) (n : ℕ) (d : Columns) → StoreAccepted c count buffer n d → ReadsBack c count buffer n d
 unfolding storeAnswer
 reads-back c count buffer n d s =
-    let a = then-found (checked c count) _ (s .accepted) in
+    let a = then-answer (checked c count) _ (s .accepted) in
     let same : rows c count ≡ a .0 = check-passed c count (a .1) .1 in
     let w = written-room buffer 0 (tableBytes (a .0)) (a .2) in
     let k : length (a .0) ≡ count = sym (ap length same) ∙ rows-length c 0 count in
@@ -49,7 +49,7 @@ reads-back c count buffer n d s =
     record { count-back = count-is d e k; rows-back = rows-are d e k ∙ sym same }
 
 counted-found : (a : Answer (List Row)) {n : ℕ} → counted a ≡ answer n → (t : List Row) × (a ≡ answer t) × (length t ≡ n)
-counted-found a e = let f = then-found a _ e in (f .0, f .1, same-answer (f .2))
+counted-found a e = let f = then-answer a _ e in (f .0, f .1, same-answer (f .2))
 
 -- bytes that read in as a table are written back as those bytes
 pub written-back : (d : Columns) (bytes : List ℕ) (n : ℕ) (buffer : List ℕ) → ReadAccepted d bytes n buffer → WrittenBack d bytes n buffer

@@ -10,11 +10,10 @@ use borrow.Author.Tests.{ltb-false}
 use Rattle.rules.specs.Answers.{Answer, answer, refused, then}
 use Rattle.rules.specs.Limits.{greatest, mostRows}
 use Rattle.rules.specs.Buffers.{room, written}
-use Rattle.rules.proofs.Answers.{same-answer, never-refused, peel}
+use Rattle.rules.proofs.Answers.{same-answer, never-refused, peel, then-answer}
 use Rattle.rules.proofs.Bools.{or-none}
 use Rattle.number.specs.Number.{numberAt, bytesOf}
 use Rattle.number.proofs.Laws.{number-count}
-use Rattle.request.proofs.ReadLaws.{then-answer}
 use Rattle.table.specs.Columns.{Row, Columns, counted}
 use Rattle.table.specs.Check.{lengthsBad, countBad, checked}
 use Rattle.table.specs.Fresh.{freshRows}
