@@ -16,6 +16,20 @@ impl LValue {
     {
         self.0 <= l.0
     }
+
+    // Of the l ranges of q numbers from here on and of p numbers from there on, the second lies in the first.
+    fn encloses(self, q: u64, there: LValue, p: u64) -> bool
+        ensures { λ t. ⌜ t ≡ within (self .0) q (there .0) p ⌝ }
+    {
+        within(self.0, q, there.0, p)
+    }
+
+    // They are disjoint.
+    fn apart_from(self, q: u64, there: LValue, p: u64) -> bool
+        ensures { λ t. ⌜ t ≡ apart (self .0) q (there .0) p ⌝ }
+    {
+        apart(self.0, q, there.0, p)
+    }
 }
 
 impl RValue {
@@ -23,6 +37,19 @@ impl RValue {
         ensures { λ t. ⌜ t ≡ atMost (self .0) (r .0) ⌝ }
     {
         self.0 <= r.0
+    }
+
+    // The same of two r ranges.
+    fn encloses(self, q: u64, there: RValue, p: u64) -> bool
+        ensures { λ t. ⌜ t ≡ within (self .0) q (there .0) p ⌝ }
+    {
+        within(self.0, q, there.0, p)
+    }
+
+    fn apart_from(self, q: u64, there: RValue, p: u64) -> bool
+        ensures { λ t. ⌜ t ≡ apart (self .0) q (there .0) p ⌝ }
+    {
+        apart(self.0, q, there.0, p)
     }
 }
 
@@ -80,8 +107,8 @@ impl Box {
     pub fn contains(self, other: Box) -> bool
         ensures { λ t. ⌜ t ≡ contains self other ⌝ }
     {
-        if within(self.l.0, self.quota, other.l.0, other.quota) {
-            return within(self.r.0, self.quota, other.r.0, other.quota);
+        if self.l.encloses(self.quota, other.l, other.quota) {
+            return self.r.encloses(self.quota, other.r, other.quota);
         }
         false
     }
@@ -90,8 +117,8 @@ impl Box {
     pub fn disjoint(self, other: Box) -> bool
         ensures { λ t. ⌜ t ≡ disjoint self other ⌝ }
     {
-        if apart(self.l.0, self.quota, other.l.0, other.quota) {
-            return apart(self.r.0, self.quota, other.r.0, other.quota);
+        if self.l.apart_from(self.quota, other.l, other.quota) {
+            return self.r.apart_from(self.quota, other.r, other.quota);
         }
         false
     }
