@@ -60,7 +60,7 @@ unfolding readRows rowsToEnd countBad
 read-most c bytes t e =
     let a = peel (lengthsBad c) _ _ e in
     let n = then-answer (numberAt bytes 0) _ (a .1) in
-    let b = peel (countBad c (n .0 .value)) _ _ (n .2) in
+    let b = peel (countBad (length (c .id)) (n .0 .value)) _ _ (n .2) in
     let s = then-answer (rowsAt (n .0 .value) bytes (n .0 .next)) _ (b .1) in
     let g = peel (ltb (s .0 .next) (length bytes)) _ _ (s .2) in
     let r = good-rows (s .0 .rows) (g .1) .1 in
