@@ -6,7 +6,7 @@ use native.Mathlib.Omega.{arith}
 use lib.ListN.{length, set, take, drop, length-append}
 use lib.Seq.{sets, sets-eq, length-sets, take-append-seam}
 use borrow.Author.Tests.{le-leb, lt-leb}
-use Rattle.rules.specs.Answers.{Answer, answer, refused}
+use Rattle.rules.specs.Answers.{answer, refused}
 use Rattle.rules.specs.Buffers.{room, written, after}
 use Rattle.rules.proofs.Answers.{same-answer, never-refused}
 use Rattle.rules.proofs.Cases.{by-lt}
