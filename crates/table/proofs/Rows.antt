@@ -1,10 +1,9 @@
 -- Laws of the rows of columns.
-use mathlib.Core.Path.{_≡_, refl, ap, ap₂, sym, _∙_}
-use mathlib.Core.List.{List, [], _∷_, _++_, map, append-nil}
+use mathlib.Core.Path.{_≡_, refl, ap, _∙_}
+use mathlib.Core.List.{List, [], _∷_, _++_, map}
 use Prim.Native.Nat.{ℕ, zero, suc, _+_, _-_, _≤_, _<_}
 use native.Mathlib.Omega.{arith}
-use native.Mathlib.Numerals.{add-one}
-use lib.ListN.{length, getD, set, drop}
+use lib.ListN.{length, set, drop}
 use lib.Seq.{set-split}
 use Rattle.table.specs.Columns.{Row, Columns, columns, rowAt, rowsFrom, rows, put}
 use Rattle.table.specs.Held.{Holds}

@@ -1,7 +1,5 @@
 // The order of two groups of a table.
 ghost use mathlib.Core.Path.{_≡_};
-ghost use Prim.Native.Nat.{_≤_, _<_};
-ghost use lib.ListN.{length, getD};
 ghost use Rattle.rules.specs.Answers.{answer};
 ghost use Rattle.table.specs.Columns.{columns, rows};
 ghost use Rattle.table.specs.Held.{Holds};
