@@ -12,9 +12,9 @@ use Rattle.rules.proofs.Answers.{same-answer, by-answer, wanted}
 use Rattle.rules.proofs.Cases.{by-lt}
 use Rattle.table.specs.Columns.{Row, Columns, rows, put, counted, afterwards}
 use Rattle.table.proofs.Rows.{rows-length}
+use Rattle.table.proofs.Lengths.{put-length}
 use Rattle.refine.specs.Refine.{refined}
 use Rattle.refine.proofs.Fitting.{refined-fits}
-use Rattle.refine.proofs.Held.{put-length}
 use Rattle.growth.specs.Lines.{lineText, tableText}
 use Rattle.growth.specs.Growth.{partAt, bytesIn, begun, Growth, grown, countAfter, requestsFrom, growText, growRoom, growAnswer, lineRoom, tableRoom}
 use Rattle.growth.proofs.Printing.{line-most, rows-most, table-count}

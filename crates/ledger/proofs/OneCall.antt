@@ -18,8 +18,8 @@ use Rattle.table.specs.Columns.{put}
 use Rattle.table.specs.Check.{countBad, checked}
 use Rattle.table.specs.Order as table
 use Rattle.table.proofs.Rows.{rows-length, rows-put}
+use Rattle.table.proofs.Lengths.{put-length, put-lengths}
 use Rattle.refine.specs.Refine.{groupsOf, lOf, rOf, refineRows, explodedRows, refined}
-use Rattle.refine.proofs.Held.{put-length, put-lengths}
 use Rattle.refine.proofs.After.{groups-length}
 use Rattle.refine.proofs.Cutting.{Refining}
 use Rattle.refine.proofs.Refinement.{refining, promised}

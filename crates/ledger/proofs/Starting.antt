@@ -18,12 +18,11 @@ use Rattle.table.specs.Check.{someRow, somePair, valueBad, lengthsBad, soundRow
 use Rattle.table.specs.Fresh.{freshRows}
 use Rattle.table.specs.Order.{subgroup}
 use Rattle.table.proofs.Rows.{rows-put}
-use Rattle.table.proofs.Lengths.{lengths-good}
+use Rattle.table.proofs.Lengths.{lengths-good, put-length, put-lengths}
 use Rattle.ledger.specs.Ledger.{freshLedger}
 use Rattle.ledger.specs.Calls.{engineStart}
 use Rattle.ledger.specs.Demand.{FreshAccepted}
 use Rattle.ledger.proofs.Agree.{Agree, Meets}
-use Rattle.refine.proofs.Held.{put-length, put-lengths}
 
 one-group : (b : Bool) → 1 ≤ pick b 1 0 + 0 → b ≡ true
 one-group true h = refl

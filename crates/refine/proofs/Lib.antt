@@ -1,4 +1,3 @@
-pub mod Held
 pub mod Lookup
 pub mod Without
 pub mod Soundness

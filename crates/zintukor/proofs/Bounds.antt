@@ -17,7 +17,7 @@ use Rattle.number.proofs.Laws.{number-count}
 use Rattle.table.specs.Columns.{Row, Columns, counted}
 use Rattle.table.specs.Check.{lengthsBad, countBad, checked}
 use Rattle.table.specs.Fresh.{freshRows}
-use Rattle.table.proofs.Lengths.{lengths-good}
+use Rattle.table.proofs.Lengths.{lengths-good, count-good}
 use Rattle.table.proofs.Passing.{check-passed, good-rows}
 use Rattle.table.proofs.Rows.{rows-length}
 use Rattle.refine.specs.Refine.{refined}
@@ -56,7 +56,7 @@ refined-small c count bytes = counted-small _ (refined-most c count bytes)
 -- ## Reading: as many rows as the count says
 
 read-most : (c : Columns) (bytes : List ℕ) (t : List Row) → readRows c bytes ≡ answer t → length t ≤ mostRows
-unfolding readRows rowsToEnd countBad
+unfolding readRows rowsToEnd
 read-most c bytes t e =
     let a = peel (lengthsBad c) _ _ e in
     let n = then-answer (numberAt bytes 0) _ (a .1) in
@@ -65,8 +65,7 @@ read-most c bytes t e =
     let g = peel (ltb (s .0 .next) (length bytes)) _ _ (s .2) in
     let r = good-rows (s .0 .rows) (g .1) .1 in
     let k = rows-count (n .0 .value) bytes (n .0 .next) (s .0) (s .1) in
-    let m : n .0 .value ≤ length (c .id) = ltb-false _ _ (or-none (eqb (n .0 .value) 0) _ (b .0) .1) in
-    omega (arith, ap length r, lengths-good c (a .0) .most)
+    omega (arith, ap length r, count-good _ _ (b .0) .1, lengths-good c (a .0) .most)
 
 pub read-small : (c : Columns) (bytes : List ℕ) → Small (counted (readRows c bytes))
 read-small c bytes = counted-small _ (read-most c bytes)
