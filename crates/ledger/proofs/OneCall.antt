@@ -6,7 +6,7 @@ use mathlib.Core.Logic.{_≢_}
 use Prim.Native.Nat.{ℕ, _≤_}
 use native.Mathlib.Omega.{arith}
 use lib.ListN.{length}
-use borrow.Author.Tests.{eqb-false, ne-eqb, le-ltb}
+use borrow.Author.Tests.{eqb-false}
 use Rattle.rules.specs.Answers.{Answer, answer, refused, then}
 use Rattle.rules.proofs.Answers.{by-answer}
 use Rattle.request.specs.Entries.{times}
@@ -15,10 +15,10 @@ use Rattle.request.specs.Reading.{requestOf}
 use Rattle.request.specs.Acceptance.{accepted}
 use Rattle.request.proofs.Sums.{same-length}
 use Rattle.table.specs.Columns.{put}
-use Rattle.table.specs.Check.{countBad, checked}
+use Rattle.table.specs.Check.{checked}
 use Rattle.table.specs.Order as table
 use Rattle.table.proofs.Rows.{rows-length, rows-put}
-use Rattle.table.proofs.Lengths.{put-length, put-lengths}
+use Rattle.table.proofs.Lengths.{good-count, put-length, put-lengths}
 use Rattle.refine.specs.Refine.{groupsOf, lOf, rOf, refineRows, explodedRows, refined}
 use Rattle.refine.proofs.After.{groups-length}
 use Rattle.refine.proofs.Cutting.{Refining}
@@ -32,10 +32,8 @@ use Rattle.ledger.proofs.Answering.{order-alike, accepted-alike, accept
 module _ {s : Table} {g : Ledger} (m : Meets s g) where
   -- the check of the columns passes
   passes : checked (s .columns) (s .count) ≡ answer (rowsIn s)
-  unfolding checked countBad
-  passes =
-      let n : s .count ≡ 0 → ⊥ = λ e. omega (arith, m .some) in
-      rw (m .lengths, ne-eqb (s .count) 0 n, le-ltb (length (s .columns .id)) (s .count) (m .most)) (m .agree .sound)
+  unfolding checked
+  passes = rw (m .lengths, good-count (length (s .columns .id)) (s .count) (m .some) (m .most)) (m .agree .sound)
 
   pub orders-alike : (a b : ℕ) → table.order (s .columns) (s .count) a b ≡ ledgerOrder g a b
   unfolding table.order

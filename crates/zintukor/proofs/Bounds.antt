@@ -6,12 +6,10 @@ use Prim.Native.Nat.{ℕ, _+_, _*_, _≤_}
 use native.Mathlib.Omega.{arith}
 use lib.Dec.{eqb, ltb}
 use lib.ListN.{length, length-append}
-use borrow.Author.Tests.{ltb-false}
 use Rattle.rules.specs.Answers.{Answer, answer, refused, then}
 use Rattle.rules.specs.Limits.{greatest, mostRows}
 use Rattle.rules.specs.Buffers.{room, written}
 use Rattle.rules.proofs.Answers.{same-answer, never-refused, peel, then-answer}
-use Rattle.rules.proofs.Bools.{or-none}
 use Rattle.number.specs.Number.{numberAt, bytesOf}
 use Rattle.number.proofs.Laws.{number-count}
 use Rattle.table.specs.Columns.{Row, Columns, counted}
