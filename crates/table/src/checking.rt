@@ -100,17 +100,16 @@ fn id_above(id: &[u32], l: &[u32], r: &[u32], q: &[u32], i: usize) -> bool
     false
 }
 
-// From the last row up.
 fn some_ids_same(id: &[u32], l: &[u32], r: &[u32], q: &[u32], count: usize) -> bool
     requires { ⌜ Holds (columns (now id) (now l) (now r) (now q)) count ⌝ }
     ensures { λ t. ⌜ t ≡ somePair sameId (rows (columns (now (id .entry)) (now (l .entry)) (now (r .entry)) (now (q .entry))) count) ⌝ }
 {
-    let mut ids = count;
-    while 0 < ids {
-        ids -= 1;
-        if id_above(id, l, r, q, ids) {
+    let mut i = 0;
+    while i < count {
+        if id_above(id, l, r, q, i) {
             return true;
         }
+        i += 1;
     }
     false
 }
@@ -131,17 +130,16 @@ fn box_above(id: &[u32], l: &[u32], r: &[u32], q: &[u32], i: usize) -> bool
     false
 }
 
-// From the last row up.
 fn some_ranges_meet(id: &[u32], l: &[u32], r: &[u32], q: &[u32], count: usize) -> bool
     requires { ⌜ Holds (columns (now id) (now l) (now r) (now q)) count ⌝ }
     ensures { λ t. ⌜ t ≡ somePair rangesMeet (rows (columns (now (id .entry)) (now (l .entry)) (now (r .entry)) (now (q .entry))) count) ⌝ }
 {
-    let mut boxes = count;
-    while 0 < boxes {
-        boxes -= 1;
-        if box_above(id, l, r, q, boxes) {
+    let mut i = 0;
+    while i < count {
+        if box_above(id, l, r, q, i) {
             return true;
         }
+        i += 1;
     }
     false
 }
