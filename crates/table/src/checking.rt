@@ -6,6 +6,7 @@ ghost use Rattle.table.specs.Check.{someRow, somePair, lengthsBad, count
 ghost use Rattle.table.specs.Says.{checkedSays, given};
 ghost use Rattle.table.specs.Held.{Holds};
 use crate::Checked;
+use crate::certifying::no_pair;
 use boxes::Box;
 use rules::GREATEST;
 use rules::MOST_ROWS;
@@ -151,6 +152,9 @@ fn check_rows(id: &[u32], l: &[u32], r: &[u32], q: &[u32], count: usize) -> Chec
 {
     if some_value_bad(id, l, r, q, count) {
         return Checked::Refused(Refusal::RowValue);
+    }
+    if no_pair(id, l, r, q, count) {
+        return Checked::Sound;
     }
     if some_ids_same(id, l, r, q, count) {
         return Checked::Refused(Refusal::RowIds);
