@@ -65,11 +65,6 @@ module _ (c : Columns) (i : ℕ) where
       → somePair p (rows c (i + 1)) ≡ false
   no-pair-more p h k = ap (somePair p) (rows-more c i) ∙ pair-one p (rows c i) (rowAt c i) ∙ rw (h, k)
 
-  -- row i has no pair with a row above it, so the pairs are those above it
-  pub pairs-above : (n : ℕ) (p : Row → Row → Bool) → n ≡ i + 1 → someRow (λ v. p v (rowAt c i)) (rows c i) ≡ false
-      → somePair p (rows c n) ≡ somePair p (rows c i)
-  pairs-above n p e k = rw e (ap (somePair p) (rows-more c i) ∙ pair-one p (rows c i) (rowAt c i) ∙ rw k (or-false (somePair p (rows c i))))
-
   -- row i, of more rows than i
   some-here : (p : Row → Bool) → p (rowAt c i) ≡ true → someRow p (rows c (i + 1)) ≡ true
   some-here p k = ap (someRow p) (rows-more c i) ∙ some-append p (rows c i) (rowAt c i ∷ []) ∙ rw (some-one p (rowAt c i), k) (or-true (someRow p (rows c i)))
@@ -89,6 +84,9 @@ module _ (c : Columns) (i : ℕ) where
   pub none-all : (n : ℕ) (p : Row → Bool) → i ≤ n → n ≤ i → someRow p (rows c i) ≡ false → false ≡ someRow p (rows c n)
   none-all n p h k e = let f : i ≡ n = omega arith in sym (rw f at e)
 
+  pub no-pair-all : (n : ℕ) (p : Row → Row → Bool) → i ≤ n → n ≤ i → somePair p (rows c i) ≡ false → false ≡ somePair p (rows c n)
+  no-pair-all n p h k e = let f : i ≡ n = omega arith in sym (rw f at e)
+
 -- before the first row
 pub none-yet : (c : Columns) (p : Row → Bool) → someRow p (rows c 0) ≡ false
 unfolding someRow rowsFrom
@@ -97,7 +95,3 @@ none-yet c p = refl
 pub no-pair-yet : (c : Columns) (p : Row → Row → Bool) → somePair p (rows c 0) ≡ false
 unfolding somePair rowsFrom
 no-pair-yet c p = refl
-
--- no row is left
-pub no-pair-left : (c : Columns) (i n : ℕ) (p : Row → Row → Bool) → i ≤ 0 → somePair p (rows c n) ≡ somePair p (rows c i) → false ≡ somePair p (rows c n)
-no-pair-left c i n p h e = let f : i ≡ 0 = omega arith in sym (e ∙ rw f (no-pair-yet c p))

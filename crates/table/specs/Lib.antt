@@ -6,3 +6,4 @@ pub mod Fresh
 pub mod Order
 pub mod Found
 pub mod Says
+pub mod Certificate

@@ -6,6 +6,7 @@ ghost use Rattle.table.specs.Check.{someRow, somePair, lengthsBad, count
 ghost use Rattle.table.specs.Says.{checkedSays, given};
 ghost use Rattle.table.specs.Held.{Holds};
 use crate::Checked;
+use crate::certifying::no_pair;
 use boxes::Box;
 use rules::GREATEST;
 use rules::MOST_ROWS;
@@ -100,17 +101,16 @@ fn id_above(id: &[u32], l: &[u32], r: &[u32], q: &[u32], i: usize) -> bool
     false
 }
 
-// From the last row up.
 fn some_ids_same(id: &[u32], l: &[u32], r: &[u32], q: &[u32], count: usize) -> bool
     requires { ⌜ Holds (columns (now id) (now l) (now r) (now q)) count ⌝ }
     ensures { λ t. ⌜ t ≡ somePair sameId (rows (columns (now (id .entry)) (now (l .entry)) (now (r .entry)) (now (q .entry))) count) ⌝ }
 {
-    let mut ids = count;
-    while 0 < ids {
-        ids -= 1;
-        if id_above(id, l, r, q, ids) {
+    let mut i = 0;
+    while i < count {
+        if id_above(id, l, r, q, i) {
             return true;
         }
+        i += 1;
     }
     false
 }
@@ -131,17 +131,16 @@ fn box_above(id: &[u32], l: &[u32], r: &[u32], q: &[u32], i: usize) -> bool
     false
 }
 
-// From the last row up.
 fn some_ranges_meet(id: &[u32], l: &[u32], r: &[u32], q: &[u32], count: usize) -> bool
     requires { ⌜ Holds (columns (now id) (now l) (now r) (now q)) count ⌝ }
     ensures { λ t. ⌜ t ≡ somePair rangesMeet (rows (columns (now (id .entry)) (now (l .entry)) (now (r .entry)) (now (q .entry))) count) ⌝ }
 {
-    let mut boxes = count;
-    while 0 < boxes {
-        boxes -= 1;
-        if box_above(id, l, r, q, boxes) {
+    let mut i = 0;
+    while i < count {
+        if box_above(id, l, r, q, i) {
             return true;
         }
+        i += 1;
     }
     false
 }
@@ -153,6 +152,9 @@ fn check_rows(id: &[u32], l: &[u32], r: &[u32], q: &[u32], count: usize) -> Chec
 {
     if some_value_bad(id, l, r, q, count) {
         return Checked::Refused(Refusal::RowValue);
+    }
+    if no_pair(id, l, r, q, count) {
+        return Checked::Sound;
     }
     if some_ids_same(id, l, r, q, count) {
         return Checked::Refused(Refusal::RowIds);

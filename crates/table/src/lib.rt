@@ -1,7 +1,9 @@
 // The table (document 01): four lent columns of 32-bit numbers id, l, r, q, and a count of the rows in use.
+mod certifying;
 mod checking;
 mod making;
 mod ordering;
+mod sorting;
 
 pub use checking::check_columns;
 pub use checking::count_bad;
