@@ -8,4 +8,3 @@ pub mod OneCall
 pub mod Starting
 mod Deciding
 pub mod Whole
-pub mod Figures
