@@ -1,6 +1,7 @@
 // Text to standard output.
 use libc::STDOUT_FILENO;
 use rules::Refusal;
+use table::Counted;
 
 pub fn text(t: &[u8]) {
     io::write_all(STDOUT_FILENO, t);
@@ -21,6 +22,21 @@ pub fn count(n: usize) {
 pub fn refusal(why: Refusal) {
     text(b"no ");
     number(why.number());
+}
+
+// A count, or a refusal; and the count after it, which a refusal leaves.
+pub fn counted(c: Counted, before: usize) -> usize {
+    match c {
+        Counted::Count(n) => {
+            text(b"count ");
+            count(n);
+            n
+        }
+        Counted::Refused(why) => {
+            refusal(why);
+            before
+        }
+    }
 }
 
 // A byte in hexadecimal, after a space.
