@@ -4,11 +4,9 @@ use table::Checked;
 
 // The columns are read only: the call cannot write them.
 fn check(id: &[u32], l: &[u32], r: &[u32], q: &[u32], count: usize) {
-    show::text(b"check");
-    show::columns(id, l, r, q);
-    show::text(b" count ");
-    show::count(count);
-    show::text(b": ");
+    show::columns_after(b"check", id, l, r, q);
+    show::count_after(b" count ", count);
+    show::colon();
     match table::check_columns(id, l, r, q, count) {
         Checked::Sound => {
             show::text(b"sound");
@@ -17,7 +15,7 @@ fn check(id: &[u32], l: &[u32], r: &[u32], q: &[u32], count: usize) {
             show::refusal(why);
         }
     }
-    show::text(b"\n");
+    show::end();
 }
 
 // 10. The ranges of the three rows touch.

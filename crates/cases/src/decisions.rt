@@ -11,16 +11,13 @@ fn decided(d: Decided) {
             show::text(b"on open");
         }
         Decided::OnUntil(day) => {
-            show::text(b"on ");
-            show::number(day);
+            show::number_after(b"on ", day);
         }
         Decided::Ended(day) => {
-            show::text(b"ended ");
-            show::number(day);
+            show::number_after(b"ended ", day);
         }
         Decided::Ahead(day) => {
-            show::text(b"ahead ");
-            show::number(day);
+            show::number_after(b"ahead ", day);
         }
         Decided::Never => {
             show::text(b"never");
@@ -29,22 +26,21 @@ fn decided(d: Decided) {
             show::refusal(why);
         }
     }
-    show::text(b"\n");
+    show::end();
+}
+
+fn words(feature: u32, l: u32, r: u32, day: u32) {
+    show::number_after(b"decide ", feature);
+    show::number_after(b" for ", l);
+    show::number_after(b",", r);
+    show::number_after(b" on ", day);
 }
 
 // A feature, a pass and a day, and the grants.
 fn decide(feature: u32, l: u32, r: u32, day: u32, grants: &[u8]) {
-    show::text(b"decide ");
-    show::number(feature);
-    show::text(b" for ");
-    show::number(l);
-    show::text(b",");
-    show::number(r);
-    show::text(b" on ");
-    show::number(day);
-    show::text(b" by");
-    show::bytes(grants);
-    show::text(b": ");
+    words(feature, l, r, day);
+    show::bytes_after(b" by", grants);
+    show::colon();
     decided(grant::decide(feature, l, r, day, grants));
 }
 
@@ -62,9 +58,8 @@ pub fn decide_case(bytes: &[u8]) {
 
 // A question in bytes.
 pub fn question(bytes: &[u8]) {
-    show::text(b"question");
-    show::bytes(bytes);
-    show::text(b": ");
+    show::bytes_after(b"question", bytes);
+    show::colon();
     decided(grant::question(bytes));
 }
 

@@ -1,22 +1,22 @@
 // Fresh: its answer, and the columns before and after it.
 use crate::show;
 
+fn words(group: u32, quota: u32) {
+    show::number_after(b"fresh ", group);
+    show::number_after(b" quota ", quota);
+}
+
 // The columns before, the answer, and the columns after.
 fn fresh(id: &mut [u32], l: &mut [u32], r: &mut [u32], q: &mut [u32], group: u32, quota: u32) {
-    show::text(b"fresh ");
-    show::number(group);
-    show::text(b" quota ");
-    show::number(quota);
-    show::text(b" on");
-    show::columns(&*id, &*l, &*r, &*q);
-    show::text(b": ");
+    words(group, quota);
+    show::columns_after(b" on", &*id, &*l, &*r, &*q);
+    show::colon();
     show::counted(
         table::fresh(&mut *id, &mut *l, &mut *r, &mut *q, group, quota),
         0,
     );
-    show::text(b",");
-    show::columns(&*id, &*l, &*r, &*q);
-    show::text(b"\n");
+    show::columns_after(b",", &*id, &*l, &*r, &*q);
+    show::end();
 }
 
 fn two_rows(group: u32, quota: u32) {

@@ -2,7 +2,6 @@
 use crate::script::Kind;
 use crate::script::each;
 use crate::show;
-use crate::stores::written;
 use number::Written;
 
 // The text of a log of at most 255 bytes.
@@ -12,8 +11,7 @@ pub fn grow(log: &[u8]) {
     let mut r = [0; 16];
     let mut q = [0; 16];
     let mut text = [0u8; 20000];
-    show::text(b"grow");
-    show::bytes(log);
+    show::bytes_after(b"grow", log);
     show::text(b":\n");
     match growth::grow(log, &mut id, &mut l, &mut r, &mut q, &mut text) {
         Written::Bytes(n) => {
@@ -23,7 +21,7 @@ pub fn grow(log: &[u8]) {
         }
         Written::Refused(why) => {
             show::refusal(why);
-            show::text(b"\n");
+            show::end();
         }
     }
 }
@@ -34,7 +32,7 @@ fn after(id: &[u32; 2], l: &[u32; 2], r: &[u32; 2], q: &[u32; 2], text: &[u8; 16
     show::text(b",");
     let t = &text[..];
     show::bytes(&t[0..32]);
-    show::text(b"\n");
+    show::end();
 }
 
 // The log 1, 2 needs 16412 bytes of room for its text: 30 and nothing changed where there is one less.
@@ -44,11 +42,10 @@ fn room(n: usize) {
     let mut r = [7; 2];
     let mut q = [7; 2];
     let mut text = [0xEEu8; 16412];
-    show::text(b"grow in ");
-    show::count(n);
-    show::text(b": ");
+    show::count_after(b"grow in ", n);
+    show::colon();
     if n <= 16412 {
-        written(growth::grow(
+        show::written(growth::grow(
             b"\x01\x02",
             &mut id,
             &mut l,

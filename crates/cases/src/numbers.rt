@@ -3,50 +3,34 @@ use crate::script::Kind;
 use crate::script::each;
 use crate::show;
 use number::Drawn;
-use number::Written;
 
 // What stands at a position.
 pub fn read(bytes: &[u8], at: usize) {
-    show::text(b"read");
-    show::bytes(bytes);
-    show::text(b" at ");
-    show::count(at);
-    show::text(b": ");
+    show::bytes_after(b"read", bytes);
+    show::count_after(b" at ", at);
+    show::colon();
     match number::number_at(bytes, at) {
         Drawn::Number(value, next) => {
             show::number(value);
-            show::text(b", next ");
-            show::count(next);
+            show::count_after(b", next ", next);
         }
         Drawn::Refused(why) => {
             show::refusal(why);
         }
     }
-    show::text(b"\n");
+    show::end();
 }
 
 // A number's length, and a buffer of seven bytes after it is written at a position.
 fn write(value: u32, at: usize) {
-    show::text(b"write ");
-    show::number(value);
-    show::text(b" at ");
-    show::count(at);
-    show::text(b": length ");
-    show::count(number::number_length(value));
+    show::number_after(b"write ", value);
+    show::count_after(b" at ", at);
+    show::count_after(b": length ", number::number_length(value));
     show::text(b", ");
     let mut buffer = [0xEEu8; 7];
-    match number::write_number(&mut buffer, at, value) {
-        Written::Bytes(count) => {
-            show::count(count);
-            show::text(b" bytes,");
-        }
-        Written::Refused(why) => {
-            show::refusal(why);
-            show::text(b",");
-        }
-    }
+    show::written(number::write_number(&mut buffer, at, value));
     show::bytes(&buffer);
-    show::text(b"\n");
+    show::end();
 }
 
 fn reads() {

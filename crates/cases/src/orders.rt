@@ -20,19 +20,19 @@ fn ordered(o: Ordered) {
             show::refusal(why);
         }
     }
-    show::text(b"\n");
+    show::end();
+}
+
+fn words(a: u32, b: u32) {
+    show::number_after(b"order ", a);
+    show::number_after(b" ", b);
 }
 
 fn order(id: &[u32], l: &[u32], r: &[u32], q: &[u32], count: usize, a: u32, b: u32) {
-    show::text(b"order ");
-    show::number(a);
-    show::text(b" ");
-    show::number(b);
-    show::text(b" in");
-    show::columns(id, l, r, q);
-    show::text(b" count ");
-    show::count(count);
-    show::text(b": ");
+    words(a, b);
+    show::columns_after(b" in", id, l, r, q);
+    show::count_after(b" count ", count);
+    show::colon();
     ordered(table::order(id, l, r, q, count, a, b));
 }
 

@@ -23,8 +23,7 @@ fn request(bytes: &[u8]) {
     if bytes.len() <= 60 {
         show::bytes(bytes);
     } else {
-        show::text(b" of bytes ");
-        show::count(bytes.len());
+        show::count_after(b" of bytes ", bytes.len());
     }
 }
 
@@ -39,15 +38,14 @@ pub fn refine(
 ) -> usize {
     show::text(b"refine");
     request(bytes);
-    show::text(b": ");
+    show::colon();
     let after = show::counted(refine::refine(id, l, r, q, count, bytes), count);
-    show::text(b"\n");
+    show::end();
     after
 }
 
 pub fn quota(n: u32) {
-    show::text(b"quota ");
-    show::number(n);
+    show::number_after(b"quota ", n);
     show::text(b", ");
 }
 

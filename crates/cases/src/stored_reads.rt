@@ -10,13 +10,11 @@ pub fn read(bytes: &[u8]) {
     let mut l = [7; 3];
     let mut r = [7; 3];
     let mut q = [7; 3];
-    show::text(b"read table");
-    show::bytes(bytes);
-    show::text(b": ");
+    show::bytes_after(b"read table", bytes);
+    show::colon();
     let count = show::counted(stored::read(&mut id, &mut l, &mut r, &mut q, bytes), 0);
-    show::text(b",");
-    show::columns(&id, &l, &r, &q);
-    show::text(b"\n");
+    show::columns_after(b",", &id, &l, &r, &q);
+    show::end();
     if 0 < count {
         store(&id, &l, &r, &q, count, 16);
     }
@@ -30,9 +28,8 @@ fn lengths_differ() {
     let mut q = [7; 3];
     show::text(b"read table: ");
     show::counted(stored::read(&mut id, &mut l, &mut r, &mut q, b""), 0);
-    show::text(b",");
-    show::columns(&id, &l, &r, &q);
-    show::text(b"\n");
+    show::columns_after(b",", &id, &l, &r, &q);
+    show::end();
 }
 
 // Two rows of the three, all three, and numbers of several bytes.

@@ -1,38 +1,21 @@
 // Storing: the bytes, and the buffer after them.
 use crate::show;
-use number::Written;
-
-pub fn written(w: Written) {
-    match w {
-        Written::Bytes(n) => {
-            show::count(n);
-            show::text(b" bytes,");
-        }
-        Written::Refused(why) => {
-            show::refusal(why);
-            show::text(b",");
-        }
-    }
-}
 
 // The whole buffer, and the end of the line.
 fn buffer_after(buffer: &[u8; 16]) {
     show::bytes(buffer);
-    show::text(b"\n");
+    show::end();
 }
 
 // In so many bytes of a buffer of 16, all of which are shown after it.
 pub fn store(id: &[u32], l: &[u32], r: &[u32], q: &[u32], count: usize, room: usize) {
     let mut buffer = [0xEEu8; 16];
-    show::text(b"store");
-    show::columns(id, l, r, q);
-    show::text(b" count ");
-    show::count(count);
-    show::text(b" in ");
-    show::count(room);
-    show::text(b": ");
+    show::columns_after(b"store", id, l, r, q);
+    show::count_after(b" count ", count);
+    show::count_after(b" in ", room);
+    show::colon();
     if room <= 16 {
-        written(stored::store(id, l, r, q, count, &mut buffer[0..room]));
+        show::written(stored::store(id, l, r, q, count, &mut buffer[0..room]));
     }
     buffer_after(&buffer);
 }

@@ -10,8 +10,7 @@ fn two(id2: u32, l2: u32, r2: u32, count: usize, bytes: &[u8]) {
     let mut r = [3, r2];
     let mut q = [2, 2];
     show::columns(&id, &l, &r, &q);
-    show::text(b" count ");
-    show::count(count);
+    show::count_after(b" count ", count);
     show::text(b" ");
     let n = refine(&mut id, &mut l, &mut r, &mut q, count, bytes);
     rows(&id, &l, &r, &q, n);
