@@ -1,11 +1,11 @@
-// Decisions: each answer at its borders, each refusal, and lists of several grants.
+// Decisions: each answer at its borders, and each refusal.
 use crate::script::Kind;
 use crate::script::draw;
 use crate::script::each;
 use crate::show;
 use grant::Decided;
 
-fn decided(d: Decided) {
+pub fn decided(d: Decided) {
     match d {
         Decided::OnOpen => {
             show::text(b"on open");
@@ -159,53 +159,6 @@ fn bad_numbers() {
     );
 }
 
-// Several grants, and none.
-fn lists() {
-    each(
-        Kind::Decide,
-        b"\
-\x04\x07\x01\x01\x0f\
-\x0e\x07\x01\x01\x19\x07\x02\x02\x0a\x14\x07\x02\x02\x1e\x28\
-\x0e\x07\x01\x01\x19\x07\x02\x02\x1e\x28\x07\x02\x02\x0a\x14\
-\x13\x07\x01\x01\x0f\x07\x02\x02\x0a\x14\x07\x02\x02\x0c\x1e\x07\x02\x02\x05\x19\
-\x13\x07\x01\x01\x0f\x07\x02\x02\x0a\x00\x07\x02\x02\x0c\x1e\x07\x02\x02\x05\x19\
-\x13\x07\x01\x01\x0f\x07\x02\x02\x0a\x14\x07\x02\x02\x0c\x1e\x07\x02\x02\x05\x00\
-\x13\x07\x01\x01\x09\x07\x02\x02\x01\x03\x07\x02\x02\x01\x08\x07\x02\x02\x01\x05\
-\x13\x07\x01\x01\x09\x07\x02\x02\x1e\x00\x07\x02\x02\x14\x15\x07\x02\x02\x28\x00\
-\x13\x07\x01\x01\x19\x07\x02\x02\x1e\x00\x07\x02\x02\x0a\x14\x07\x02\x02\x16\x1a\
-\x13\x07\x01\x01\x0f\x07\x02\x02\x0a\x14\x08\x02\x02\x0a\x00\x07\x02\x02\x1e\x00\
-\x13\x07\x01\x01\x19\x07\x02\x02\x0a\x14\x08\x02\x02\x0a\x00\x07\x02\x02\x1e\x00",
-    );
-}
-
-// The same five bytes again and again.
-fn fill(buffer: &mut [u8]) {
-    let mut at = 0;
-    while at < buffer.len() {
-        if buffer.len() - at < 5 {
-            return;
-        }
-        buffer[at] = 7;
-        buffer[at + 1] = 2;
-        buffer[at + 2] = 2;
-        buffer[at + 3] = 10;
-        buffer[at + 4] = 20;
-        at += 5;
-    }
-}
-
-// A list of 4000 grants, and one byte more.
-fn long_lists() {
-    let mut whole = [0u8; 20000];
-    fill(&mut whole);
-    show::text(b"decide by 4000 grants: ");
-    decided(grant::decide(7, 1, 1, 15, &whole));
-    let mut more = [0u8; 20001];
-    fill(&mut more);
-    show::text(b"decide by 4000 grants and a byte: ");
-    decided(grant::decide(7, 1, 1, 15, &more));
-}
-
 // 1 and 2 as the numbers are read, then 15, then the list.
 fn questions() {
     each(
@@ -231,7 +184,5 @@ pub fn all() {
     bad_questions();
     bad_grants();
     bad_numbers();
-    lists();
-    long_lists();
     questions();
 }

@@ -4,6 +4,7 @@ mod checks;
 mod decisions;
 mod fresh_cases;
 mod limits;
+mod lists;
 mod logs;
 mod numbers;
 mod orders;
@@ -27,4 +28,5 @@ fn main() {
     turns::all();
     logs::all();
     decisions::all();
+    lists::all();
 }
