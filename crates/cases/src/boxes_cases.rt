@@ -61,7 +61,7 @@ fn next_child(b: Box, quota: u64) {
             show::text(b" none");
         }
     }
-    show::text(b"\n");
+    show::end();
 }
 
 fn containments() {

@@ -1,23 +1,23 @@
-// Decisions: each answer at its borders, each refusal, and lists of several grants.
+// Decisions: each answer at its borders, and each refusal.
+use crate::script::Kind;
+use crate::script::draw;
+use crate::script::each;
 use crate::show;
 use grant::Decided;
 
-fn decided(d: Decided) {
+pub fn decided(d: Decided) {
     match d {
         Decided::OnOpen => {
             show::text(b"on open");
         }
         Decided::OnUntil(day) => {
-            show::text(b"on ");
-            show::number(day);
+            show::number_after(b"on ", day);
         }
         Decided::Ended(day) => {
-            show::text(b"ended ");
-            show::number(day);
+            show::number_after(b"ended ", day);
         }
         Decided::Ahead(day) => {
-            show::text(b"ahead ");
-            show::number(day);
+            show::number_after(b"ahead ", day);
         }
         Decided::Never => {
             show::text(b"never");
@@ -26,205 +26,155 @@ fn decided(d: Decided) {
             show::refusal(why);
         }
     }
-    show::text(b"\n");
+    show::end();
+}
+
+fn words(feature: u32, l: u32, r: u32, day: u32) {
+    show::number_after(b"decide ", feature);
+    show::number_after(b" for ", l);
+    show::number_after(b",", r);
+    show::number_after(b" on ", day);
 }
 
 // A feature, a pass and a day, and the grants.
 fn decide(feature: u32, l: u32, r: u32, day: u32, grants: &[u8]) {
-    show::text(b"decide ");
-    show::number(feature);
-    show::text(b" for ");
-    show::number(l);
-    show::text(b",");
-    show::number(r);
-    show::text(b" on ");
-    show::number(day);
-    show::text(b" by");
-    show::bytes(grants);
-    show::text(b": ");
+    words(feature, l, r, day);
+    show::bytes_after(b" by", grants);
+    show::colon();
     decided(grant::decide(feature, l, r, day, grants));
 }
 
-// Feature 7 for the pass (1, 1).
-fn on_day(day: u32, grants: &[u8]) {
-    decide(7, 1, 1, day, grants);
-}
-
-// A pass on day 15, by a grant at (2, 2).
-fn pass(l: u32, r: u32) {
-    decide(7, l, r, 15, b"\x07\x02\x02\x0a\x14");
+// The same from bytes: the four numbers, then the grants.
+pub fn decide_case(bytes: &[u8]) {
+    let feature = draw(bytes, 0);
+    let l = draw(bytes, feature.next);
+    let r = draw(bytes, l.next);
+    let day = draw(bytes, r.next);
+    let at = day.next;
+    if at <= bytes.len() {
+        decide(feature.value, l.value, r.value, day.value, &bytes[at..]);
+    }
 }
 
 // A question in bytes.
-fn question(bytes: &[u8]) {
-    show::text(b"question");
-    show::bytes(bytes);
-    show::text(b": ");
+pub fn question(bytes: &[u8]) {
+    show::bytes_after(b"question", bytes);
+    show::colon();
     decided(grant::question(bytes));
 }
 
 // One grant, from day 10 to day 20, and without an end.
 fn days() {
-    on_day(9, b"\x07\x02\x02\x0a\x14");
-    on_day(10, b"\x07\x02\x02\x0a\x14");
-    on_day(20, b"\x07\x02\x02\x0a\x14");
-    on_day(21, b"\x07\x02\x02\x0a\x14");
-    on_day(9, b"\x07\x02\x02\x0a\x00");
-    on_day(10, b"\x07\x02\x02\x0a\x00");
-    on_day(4294967295, b"\x07\x02\x02\x0a\x00");
-    on_day(9, b"\x07\x02\x02\x0a\x0a");
-    on_day(10, b"\x07\x02\x02\x0a\x0a");
-    on_day(11, b"\x07\x02\x02\x0a\x0a");
+    each(
+        Kind::Decide,
+        b"\
+\x09\x07\x01\x01\x09\x07\x02\x02\x0a\x14\
+\x09\x07\x01\x01\x0a\x07\x02\x02\x0a\x14\
+\x09\x07\x01\x01\x14\x07\x02\x02\x0a\x14\
+\x09\x07\x01\x01\x15\x07\x02\x02\x0a\x14\
+\x09\x07\x01\x01\x09\x07\x02\x02\x0a\x00\
+\x09\x07\x01\x01\x0a\x07\x02\x02\x0a\x00\
+\x0d\x07\x01\x01\xff\xff\xff\xff\x0f\x07\x02\x02\x0a\x00\
+\x09\x07\x01\x01\x09\x07\x02\x02\x0a\x0a\
+\x09\x07\x01\x01\x0a\x07\x02\x02\x0a\x0a\
+\x09\x07\x01\x01\x0b\x07\x02\x02\x0a\x0a",
+    );
 }
 
 // The last days there are.
 fn last_days() {
-    on_day(4294967295, b"\x07\x02\x02\x0a\xff\xff\xff\xff\x0f");
-    on_day(4294967295, b"\x07\x02\x02\x0a\xfe\xff\xff\xff\x0f");
-    on_day(4294967294, b"\x07\x02\x02\xff\xff\xff\xff\x0f\x00");
-    on_day(4294967295, b"\x07\x02\x02\xff\xff\xff\xff\x0f\x00");
-    on_day(
-        4294967295,
-        b"\x07\x02\x02\xff\xff\xff\xff\x0f\xff\xff\xff\xff\x0f",
+    each(
+        Kind::Decide,
+        b"\
+\x11\x07\x01\x01\xff\xff\xff\xff\x0f\x07\x02\x02\x0a\xff\xff\xff\xff\x0f\
+\x11\x07\x01\x01\xff\xff\xff\xff\x0f\x07\x02\x02\x0a\xfe\xff\xff\xff\x0f\
+\x11\x07\x01\x01\xfe\xff\xff\xff\x0f\x07\x02\x02\xff\xff\xff\xff\x0f\x00\
+\x11\x07\x01\x01\xff\xff\xff\xff\x0f\x07\x02\x02\xff\xff\xff\xff\x0f\x00\
+\x15\x07\x01\x01\xff\xff\xff\xff\x0f\x07\x02\x02\xff\xff\xff\xff\x0f\xff\xff\xff\xff\x0f",
     );
 }
 
 // A group has its own grants, and those of the groups that it is a subgroup of.
 fn passes() {
-    pass(1, 1);
-    pass(2, 2);
-    pass(2, 1);
-    pass(1, 2);
-    pass(3, 2);
-    pass(2, 3);
-    pass(3, 3);
-    pass(4294967295, 4294967295);
-    decide(7, 2, 1, 15, b"\x07\x01\x02\x0a\x14");
-    decide(7, 1, 2, 15, b"\x07\x02\x01\x0a\x14");
-    decide(
-        7,
-        4294967295,
-        4294967295,
-        15,
-        b"\x07\xff\xff\xff\xff\x0f\xff\xff\xff\xff\x0f\x0a\x14",
-    );
-    decide(8, 1, 1, 15, b"\x07\x02\x02\x0a\x14");
-    decide(300, 1, 1, 15, b"\xac\x02\x02\x02\x0a\x14");
-    decide(
-        4294967295,
-        1,
-        1,
-        15,
-        b"\xff\xff\xff\xff\x0f\x02\x02\x0a\x14",
+    each(
+        Kind::Decide,
+        b"\
+\x09\x07\x01\x01\x0f\x07\x02\x02\x0a\x14\
+\x09\x07\x02\x02\x0f\x07\x02\x02\x0a\x14\
+\x09\x07\x02\x01\x0f\x07\x02\x02\x0a\x14\
+\x09\x07\x01\x02\x0f\x07\x02\x02\x0a\x14\
+\x09\x07\x03\x02\x0f\x07\x02\x02\x0a\x14\
+\x09\x07\x02\x03\x0f\x07\x02\x02\x0a\x14\
+\x09\x07\x03\x03\x0f\x07\x02\x02\x0a\x14\
+\x11\x07\xff\xff\xff\xff\x0f\xff\xff\xff\xff\x0f\x0f\x07\x02\x02\x0a\x14\
+\x09\x07\x02\x01\x0f\x07\x01\x02\x0a\x14\
+\x09\x07\x01\x02\x0f\x07\x02\x01\x0a\x14\
+\x19\x07\xff\xff\xff\xff\x0f\xff\xff\xff\xff\x0f\x0f\x07\xff\xff\xff\xff\x0f\xff\xff\xff\xff\x0f\x0a\x14\
+\x09\x08\x01\x01\x0f\x07\x02\x02\x0a\x14\
+\x0b\xac\x02\x01\x01\x0f\xac\x02\x02\x02\x0a\x14\
+\x11\xff\xff\xff\xff\x0f\x01\x01\x0f\xff\xff\xff\xff\x0f\x02\x02\x0a\x14",
     );
 }
 
 // 15 comes before the list is read.
 fn bad_questions() {
-    decide(0, 1, 1, 15, b"\x80");
-    decide(7, 0, 1, 15, b"\x80");
-    decide(7, 1, 0, 15, b"\x80");
-    decide(7, 1, 1, 0, b"\x80");
-    decide(7, 1, 1, 15, b"\x80");
+    each(
+        Kind::Decide,
+        b"\
+\x05\x00\x01\x01\x0f\x80\
+\x05\x07\x00\x01\x0f\x80\
+\x05\x07\x01\x00\x0f\x80\
+\x05\x07\x01\x01\x00\x80\
+\x05\x07\x01\x01\x0f\x80",
+    );
 }
 
 // 14, for a grant that applies or not, and wherever it stands.
 fn bad_grants() {
-    on_day(15, b"\x00\x02\x02\x0a\x14");
-    on_day(15, b"\x07\x00\x02\x0a\x14");
-    on_day(15, b"\x07\x02\x00\x0a\x14");
-    on_day(15, b"\x07\x02\x02\x00\x14");
-    on_day(15, b"\x07\x02\x02\x0a\x09");
-    on_day(15, b"\x08\x02\x02\x0a\x09");
-    on_day(15, b"\x07\x02\x02\x0a\x00\x08\x02\x02\x0a\x09");
-    on_day(15, b"\x07\x02\x02\x0a\x09\x80");
+    each(
+        Kind::Decide,
+        b"\
+\x09\x07\x01\x01\x0f\x00\x02\x02\x0a\x14\
+\x09\x07\x01\x01\x0f\x07\x00\x02\x0a\x14\
+\x09\x07\x01\x01\x0f\x07\x02\x00\x0a\x14\
+\x09\x07\x01\x01\x0f\x07\x02\x02\x00\x14\
+\x09\x07\x01\x01\x0f\x07\x02\x02\x0a\x09\
+\x09\x07\x01\x01\x0f\x08\x02\x02\x0a\x09\
+\x0e\x07\x01\x01\x0f\x07\x02\x02\x0a\x00\x08\x02\x02\x0a\x09\
+\x0a\x07\x01\x01\x0f\x07\x02\x02\x0a\x09\x80",
+    );
 }
 
 // 1 and 2 in the list.
 fn bad_numbers() {
-    on_day(15, b"\x07\x02\x02\x0a");
-    on_day(15, b"\x00\x02\x02\x0a");
-    on_day(15, b"\x07\x02\x02\x0a\x00\x07");
-    on_day(15, b"\x07\x02\x02\x0a\x80\x00");
-    on_day(15, b"\x07\x02\x02\x0a\x00\x80\x00");
-    on_day(15, b"\x07\x02\x02\x0a\xff\xff\xff\xff\x10");
-}
-
-// Several grants, and none.
-fn lists() {
-    on_day(15, b"");
-    on_day(25, b"\x07\x02\x02\x0a\x14\x07\x02\x02\x1e\x28");
-    on_day(25, b"\x07\x02\x02\x1e\x28\x07\x02\x02\x0a\x14");
-    on_day(
-        15,
-        b"\x07\x02\x02\x0a\x14\x07\x02\x02\x0c\x1e\x07\x02\x02\x05\x19",
-    );
-    on_day(
-        15,
-        b"\x07\x02\x02\x0a\x00\x07\x02\x02\x0c\x1e\x07\x02\x02\x05\x19",
-    );
-    on_day(
-        15,
-        b"\x07\x02\x02\x0a\x14\x07\x02\x02\x0c\x1e\x07\x02\x02\x05\x00",
-    );
-    on_day(
-        9,
-        b"\x07\x02\x02\x01\x03\x07\x02\x02\x01\x08\x07\x02\x02\x01\x05",
-    );
-    on_day(
-        9,
-        b"\x07\x02\x02\x1e\x00\x07\x02\x02\x14\x15\x07\x02\x02\x28\x00",
-    );
-    on_day(
-        25,
-        b"\x07\x02\x02\x1e\x00\x07\x02\x02\x0a\x14\x07\x02\x02\x16\x1a",
-    );
-    on_day(
-        15,
-        b"\x07\x02\x02\x0a\x14\x08\x02\x02\x0a\x00\x07\x02\x02\x1e\x00",
-    );
-    on_day(
-        25,
-        b"\x07\x02\x02\x0a\x14\x08\x02\x02\x0a\x00\x07\x02\x02\x1e\x00",
+    each(
+        Kind::Decide,
+        b"\
+\x08\x07\x01\x01\x0f\x07\x02\x02\x0a\
+\x08\x07\x01\x01\x0f\x00\x02\x02\x0a\
+\x0a\x07\x01\x01\x0f\x07\x02\x02\x0a\x00\x07\
+\x0a\x07\x01\x01\x0f\x07\x02\x02\x0a\x80\x00\
+\x0b\x07\x01\x01\x0f\x07\x02\x02\x0a\x00\x80\x00\
+\x0d\x07\x01\x01\x0f\x07\x02\x02\x0a\xff\xff\xff\xff\x10",
     );
 }
 
-// The same five bytes again and again.
-fn fill(buffer: &mut [u8]) {
-    let mut at = 0;
-    while at < buffer.len() {
-        if buffer.len() - at < 5 {
-            return;
-        }
-        buffer[at] = 7;
-        buffer[at + 1] = 2;
-        buffer[at + 2] = 2;
-        buffer[at + 3] = 10;
-        buffer[at + 4] = 20;
-        at += 5;
-    }
-}
-
-// A list of 4000 grants, and one byte more.
-fn long_lists() {
-    let mut whole = [0u8; 20000];
-    fill(&mut whole);
-    show::text(b"decide by 4000 grants: ");
-    decided(grant::decide(7, 1, 1, 15, &whole));
-    let mut more = [0u8; 20001];
-    fill(&mut more);
-    show::text(b"decide by 4000 grants and a byte: ");
-    decided(grant::decide(7, 1, 1, 15, &more));
-}
-
+// 1 and 2 as the numbers are read, then 15, then the list.
 fn questions() {
-    question(b"");
-    question(b"\x00\x01\x01");
-    question(b"\x07\x80\x00");
-    question(b"\x00\x01\x01\x0f");
-    question(b"\x07\x01\x01\x0f");
-    question(b"\x07\x01\x01\x0f\x07\x02\x02\x0a\x14\x07\x03\x03\x1e\x00");
-    question(b"\x07\x01\x01\x0f\x07\x02\x02\x0a");
+    each(
+        Kind::Question,
+        b"\
+\x00\
+\x03\x00\x01\x01\
+\x03\x07\x80\x00\
+\x04\x00\x01\x01\x0f\
+\x04\x07\x01\x01\x0f\
+\x0e\x07\x01\x01\x0f\x07\x02\x02\x0a\x14\x07\x03\x03\x1e\x00\
+\x08\x07\x01\x01\x0f\x07\x02\x02\x0a\
+\x05\x00\x01\x01\x0f\x80\
+\x09\x07\x01\x01\x0f\x00\x02\x02\x0a\x14\
+\x06\x07\x01\x01\x0f\x80\x00",
+    );
 }
 
 pub fn all() {
@@ -234,7 +184,5 @@ pub fn all() {
     bad_questions();
     bad_grants();
     bad_numbers();
-    lists();
-    long_lists();
     questions();
 }

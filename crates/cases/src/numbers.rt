@@ -1,77 +1,71 @@
 // Stored numbers: every length, both borders of each, and each refusal.
+use crate::script::Kind;
+use crate::script::each;
 use crate::show;
 use number::Drawn;
-use number::Written;
 
 // What stands at a position.
-fn read(bytes: &[u8], at: usize) {
-    show::text(b"read");
-    show::bytes(bytes);
-    show::text(b" at ");
-    show::count(at);
-    show::text(b": ");
+pub fn read(bytes: &[u8], at: usize) {
+    show::bytes_after(b"read", bytes);
+    show::count_after(b" at ", at);
+    show::colon();
     match number::number_at(bytes, at) {
         Drawn::Number(value, next) => {
             show::number(value);
-            show::text(b", next ");
-            show::count(next);
+            show::count_after(b", next ", next);
         }
         Drawn::Refused(why) => {
             show::refusal(why);
         }
     }
-    show::text(b"\n");
+    show::end();
 }
 
 // A number's length, and a buffer of seven bytes after it is written at a position.
 fn write(value: u32, at: usize) {
-    show::text(b"write ");
-    show::number(value);
-    show::text(b" at ");
-    show::count(at);
-    show::text(b": length ");
-    show::count(number::number_length(value));
+    show::number_after(b"write ", value);
+    show::count_after(b" at ", at);
+    show::count_after(b": length ", number::number_length(value));
     show::text(b", ");
     let mut buffer = [0xEEu8; 7];
-    match number::write_number(&mut buffer, at, value) {
-        Written::Bytes(count) => {
-            show::count(count);
-            show::text(b" bytes,");
-        }
-        Written::Refused(why) => {
-            show::refusal(why);
-            show::text(b",");
-        }
-    }
+    show::written(number::write_number(&mut buffer, at, value));
     show::bytes(&buffer);
-    show::text(b"\n");
+    show::end();
 }
 
 fn reads() {
-    read(b"\x00", 0);
-    read(b"\x01", 0);
-    read(b"\x7f", 0);
-    read(b"\x80\x01", 0);
-    read(b"\xff\x7f", 0);
-    read(b"\x80\x80\x01", 0);
-    read(b"\xff\xff\x7f", 0);
-    read(b"\x80\x80\x80\x01", 0);
-    read(b"\xff\xff\xff\x7f", 0);
-    read(b"\x80\x80\x80\x80\x01", 0);
-    read(b"\xff\xff\xff\xff\x0f", 0);
+    each(
+        Kind::Number,
+        b"\
+\x01\x00\
+\x01\x01\
+\x01\x7f\
+\x02\x80\x01\
+\x02\xff\x7f\
+\x03\x80\x80\x01\
+\x03\xff\xff\x7f\
+\x04\x80\x80\x80\x01\
+\x04\xff\xff\xff\x7f\
+\x05\x80\x80\x80\x80\x01\
+\x05\xff\xff\xff\xff\x0f",
+    );
 }
 
 fn refusals() {
-    read(b"", 0);
-    read(b"\x80", 0);
-    read(b"\x80\x80\x80\x80", 0);
-    read(b"\x80\x00", 0);
-    read(b"\x80\x80\x00", 0);
-    read(b"\x80\x80\x80\x00", 0);
-    read(b"\x80\x80\x80\x80\x00", 0);
-    read(b"\xff\xff\xff\xff\x10", 0);
-    read(b"\xff\xff\xff\xff\x90", 0);
-    read(b"\xff\xff\xff\xff\x8f\x00", 0);
+    each(
+        Kind::Number,
+        b"\
+\x00\
+\x01\x80\
+\x04\x80\x80\x80\x80\
+\x02\x80\x00\
+\x03\x80\x80\x00\
+\x04\x80\x80\x80\x00\
+\x05\x80\x80\x80\x80\x00\
+\x05\xff\xff\xff\xff\x10\
+\x05\xff\xff\xff\xff\x90\
+\x06\xff\xff\xff\xff\x8f\x00",
+    );
 }
 
 fn places() {

@@ -7,4 +7,3 @@ pub mod OneCall
 pub mod Starting
 mod Deciding
 pub mod Whole
-pub mod Figures

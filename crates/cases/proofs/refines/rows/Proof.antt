@@ -1,8 +1,8 @@
--- `cases::requests::rows` is safe and ends.
+-- `cases::refines::rows` is safe and ends.
 use Prim.Native.Nat.{_-_, _≤_}
 use borrow.Author.Needs.{needs}
-use Rattle.cases.proofs.requests.rows.Statement.{statement}
-use Rattle.cases.proofs.requests.rows.Tie as tie
+use Rattle.cases.proofs.refines.rows.Statement.{statement}
+use Rattle.cases.proofs.refines.rows.Tie as tie
 
 abbrev Inv-loop : tie.InvT-loop
 Inv-loop id l r q count i₀ i = i ≤ count

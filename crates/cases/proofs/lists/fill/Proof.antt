@@ -1,11 +1,11 @@
--- `cases::decisions::fill` is safe and ends.
+-- `cases::lists::fill` is safe and ends.
 use mathlib.Core.Path.{_≡_, refl}
 use Prim.Native.Nat.{_-_, _≤_}
 use native.Mathlib.Omega.{arith}
 use lib.ListN.{length, length-set}
 use borrow.Author.Needs.{needs}
-use Rattle.cases.proofs.decisions.fill.Statement.{statement}
-use Rattle.cases.proofs.decisions.fill.Tie as tie
+use Rattle.cases.proofs.lists.fill.Statement.{statement}
+use Rattle.cases.proofs.lists.fill.Tie as tie
 
 abbrev Inv-loop : tie.InvT-loop
 Inv-loop buffer₀ at₀ buffer at = (at ≤ length buffer) × (length buffer ≡ length buffer₀)

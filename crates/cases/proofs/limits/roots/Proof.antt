@@ -1,10 +1,10 @@
--- `cases::requests::roots` is safe and ends.
+-- `cases::limits::roots` is safe and ends.
 use mathlib.Core.Path.{_≡_}
 use Prim.Native.Nat.{_-_, _≤_}
 use lib.ListN.{length}
 use borrow.Author.Needs.{needs}
-use Rattle.cases.proofs.requests.roots.Statement.{statement}
-use Rattle.cases.proofs.requests.roots.Tie as tie
+use Rattle.cases.proofs.limits.roots.Statement.{statement}
+use Rattle.cases.proofs.limits.roots.Tie as tie
 
 abbrev Inv-loop : tie.InvT-loop
 Inv-loop bytes₀ entries k₀ bytes k = (length bytes ≡ length bytes₀) × (k ≤ entries)

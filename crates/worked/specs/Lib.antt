@@ -1,2 +1,3 @@
+pub mod Lines
 pub mod Cases
 pub mod Table

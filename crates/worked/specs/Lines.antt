@@ -1,0 +1,15 @@
+-- Printed lines as bytes.
+use Prim.Native.Nat.{ℕ}
+use Prim.Native.Char.{code}
+use Prim.Native.String.{String, [] as []ᵀ, _∷_ as _∷ᵀ_}
+use mathlib.Core.List.{List, [], _∷_, _++_}
+
+-- the bytes of a text's characters
+abbrev pub letters : String → List ℕ
+letters []ᵀ = []
+letters (c ∷ᵀ s) = code c ∷ letters s
+
+-- a line feed after every line
+abbrev pub lines : List String → List ℕ
+lines [] = []
+lines (s ∷ t) = letters s ++ (10 ∷ lines t)
