@@ -1,5 +1,5 @@
-// A quick test that no two rows meet. A certificate is made, whose making is not proved, and then tested, which is:
-// the rows in an order in which each range ends before the next begins, and each row's place in that order.
+// A quick test that no two rows meet. The certificate is the rows in an order in which each range ends before the next
+// begins, and each row's place in that order. How it is made says nothing; it is tested, and the test is proved.
 ghost use mathlib.Core.Path.{_≡_};
 ghost use mathlib.Core.Bool.{true, false};
 ghost use Prim.Native.Nat.{_≤_};
@@ -13,7 +13,7 @@ use crate::sorting::row_of;
 use crate::sorting::sort;
 use rules::MOST_ROWS;
 
-// Fewer rows than these are held against each other sooner than sorted.
+// Fewer rows than these are sooner held against each other than sorted.
 const MANY_ROWS: usize = 32;
 
 // The rows in the order of their keys, and each row's place.
