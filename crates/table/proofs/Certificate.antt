@@ -67,11 +67,11 @@ separate {first} {past} {order} {place} {count} p o i j h k =
     by-lt (getD place i 0) (getD place j 0)
     (λ x. inl (rw (a, b) at (o .follows (getD place i 0) (getD place j 0) x (p .within j k))))
     (λ y. by-lt (getD place j 0) (getD place i 0)
-      (λ x. inr (rw (b, a) at (o .follows (getD place j 0) (getD place i 0) x (p .within i h′))))
-      (λ z.
-        let e : getD place i 0 ≡ getD place j 0 = omega arith in
-        let f : i ≡ j = sym a ∙ ap (λ (n : ℕ). getD order n 0) e ∙ b in
-        absurd (omega arith)))
+    (λ x. inr (rw (b, a) at (o .follows (getD place j 0) (getD place i 0) x (p .within i h′))))
+    (λ z.
+    let e : getD place i 0 ≡ getD place j 0 = omega arith in
+    let f : i ≡ j = sym a ∙ ap (λ (n : ℕ). getD order n 0) e ∙ b in
+    absurd (omega arith)))
 
 apart-either : (a q b p : ℕ) → 1 ≤ q → 1 ≤ p → (a + q ≤ b) ⊎ (b + p ≤ a) → apart a q b p ≡ true
 unfolding apart
@@ -92,9 +92,9 @@ module _ (c : Columns) (count : ℕ) where
     ranges-differ s t =
         each-no-pair c rangesMeet count
         (λ i j h k.
-          let u = some-in i (omega arith) in
-          let v = some-in j k in
-          rw (apart-either (getD (c .l) i 0) (getD (c .q) i 0) (getD (c .l) j 0) (getD (c .q) j 0) u v (s i j h k), apart-either (getD (c .r) i 0) (getD (c .q) i 0) (getD (c .r) j 0) (getD (c .q) j 0) u v (t i j h k)))
+        let u = some-in i (omega arith) in
+        let v = some-in j k in
+        rw (apart-either (getD (c .l) i 0) (getD (c .q) i 0) (getD (c .l) j 0) (getD (c .q) j 0) u v (s i j h k), apart-either (getD (c .r) i 0) (getD (c .q) i 0) (getD (c .r) j 0) (getD (c .q) j 0) u v (t i j h k)))
 
     pub no-pair : IdsSeparate (c .id) count → RangesSeparate (c .l) (c .q) count → RangesSeparate (c .r) (c .q) count → NoPair (rows c count)
     no-pair d s t = record { ids = ids-differ d; ranges = ranges-differ s t }

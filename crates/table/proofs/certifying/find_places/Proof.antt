@@ -1,4 +1,4 @@
--- `table::certifying::find_places` meets its contract. The loop keeps the length.
+-- `table::certifying::find_places` meets its contract. The loop keeps the lengths.
 use mathlib.Core.Path.{_≡_}
 use Prim.Native.Nat.{_-_}
 use lib.ListN.{length}
@@ -7,25 +7,40 @@ use Rattle.table.proofs.certifying.find_places.Statement.{statement}
 use Rattle.table.proofs.certifying.find_places.Tie as tie
 
 abbrev Inv-loop : tie.InvT-loop
-Inv-loop order count place₀ k₀ place k = length place ≡ length place₀
+Inv-loop keys count order₀ place₀ k₀ order place k = (length order ≡ length order₀) × (length place ≡ length place₀)
 
 abbrev μ-loop : tie.MeasureT-loop
-μ-loop order count place₀ k₀ place k = count - k
+μ-loop keys count order₀ place₀ k₀ order place k = count - k
 
 loop-holds : tie.Need-loop-holds Inv-loop μ-loop
 loop-holds c = search needs
 
-value-at-requires : tie.Need-value-at-requires Inv-loop μ-loop
-value-at-requires c κs = search needs
+mul-row-of : tie.Need-mul-row-of Inv-loop μ-loop
+mul-row-of c = search needs
 
-cast-put-at : tie.Need-cast-put-at Inv-loop μ-loop
-cast-put-at c = search needs
+shared-slice-read-row-of : tie.Need-shared-slice-read-row-of Inv-loop μ-loop
+shared-slice-read-row-of c = search needs
 
-cast-put-at-2 : tie.Need-cast-put-at-2 Inv-loop μ-loop
-cast-put-at-2 c = search needs
+row-of-requires : tie.Need-row-of-requires Inv-loop μ-loop
+row-of-requires c κs = search needs
 
-put-at-requires : tie.Need-put-at-requires Inv-loop μ-loop
-put-at-requires c κs = search needs
+cast-order : tie.Need-cast-order Inv-loop μ-loop
+cast-order c = search needs
+
+mul-order : tie.Need-mul-order Inv-loop μ-loop
+mul-order c = search needs
+
+slice-write-order : tie.Need-slice-write-order Inv-loop μ-loop
+slice-write-order c = search needs
+
+cast-place : tie.Need-cast-place Inv-loop μ-loop
+cast-place c = search needs
+
+mul-place : tie.Need-mul-place Inv-loop μ-loop
+mul-place c = search needs
+
+slice-write-place : tie.Need-slice-write-place Inv-loop μ-loop
+slice-write-place c = search needs
 
 add-k : tie.Need-add-k Inv-loop μ-loop
 add-k c = search needs
@@ -39,6 +54,9 @@ loop-again c = search needs
 same-length : tie.Need-same-length Inv-loop μ-loop
 same-length c = search needs
 
+same-length-2 : tie.Need-same-length-2 Inv-loop μ-loop
+same-length-2 c = search needs
+
 returns : tie.Need-returns Inv-loop μ-loop
 returns c = search needs
 
@@ -49,12 +67,18 @@ find-places-spec =
     Inv-loop
     μ-loop
     loop-holds
-    value-at-requires
-    cast-put-at
-    cast-put-at-2
-    put-at-requires
+    mul-row-of
+    shared-slice-read-row-of
+    row-of-requires
+    cast-order
+    mul-order
+    slice-write-order
+    cast-place
+    mul-place
+    slice-write-place
     add-k
     loop-less
     loop-again
     same-length
+    same-length-2
     returns)

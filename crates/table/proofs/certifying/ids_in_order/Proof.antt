@@ -1,10 +1,10 @@
 -- `table::certifying::ids_in_order` meets its contract. The loop's invariant: the ids passed rise, and `past` is above them.
-use mathlib.Core.Path.{sym, ap, _∙_}
+use mathlib.Core.Path.{refl, sym}
 use mathlib.Core.Bool.{true≢false}
-use Prim.Native.Nat.{ℕ, _+_, _-_}
+use Prim.Native.Nat.{_+_, _-_}
 use lib.ListN.{getD}
-use Rattle.table.proofs.Certificate.{Chain, chain-none, chain-more, chain-all}
 use native.Mathlib.Omega.{arith}
+use Rattle.table.proofs.Certificate.{Chain, chain-none, chain-more, chain-all}
 use borrow.Author.Needs.{needs}
 use Rattle.table.proofs.certifying.ids_in_order.Statement.{statement}
 use Rattle.table.proofs.certifying.ids_in_order.Tie as tie
@@ -18,23 +18,32 @@ abbrev μ-loop : tie.MeasureT-loop
 loop-holds : tie.Need-loop-holds Inv-loop μ-loop
 loop-holds c = chain-none _ _ _
 
-value-at-requires : tie.Need-value-at-requires Inv-loop μ-loop
-value-at-requires c κs = search needs
+mul-row : tie.Need-mul-row Inv-loop μ-loop
+mul-row c = search needs
 
-cast-value-at : tie.Need-cast-value-at Inv-loop μ-loop
-cast-value-at c = search needs
+shared-slice-read-row : tie.Need-shared-slice-read-row Inv-loop μ-loop
+shared-slice-read-row c = search needs
 
-value-at-requires-2 : tie.Need-value-at-requires-2 Inv-loop μ-loop
-value-at-requires-2 c κs = search needs
-
-cast-own : tie.Need-cast-own Inv-loop μ-loop
-cast-own c = search needs
+cast-row : tie.Need-cast-row Inv-loop μ-loop
+cast-row c = omega (arith, c .shared-slice-known .given (c .before .before .loop .k))
 
 returns : tie.Need-returns Inv-loop μ-loop
 returns c = λ e. absurd (true≢false (sym e))
 
+mul-own : tie.Need-mul-own Inv-loop μ-loop
+mul-own c = search needs
+
+shared-slice-read-own : tie.Need-shared-slice-read-own Inv-loop μ-loop
+shared-slice-read-own c = search needs
+
+cast-own : tie.Need-cast-own Inv-loop μ-loop
+cast-own c = omega (arith, c .shared-slice-known2 .given (getD (c .before .before .before .before .before .args .order .now) (c .before .before .before .before .loop .k) 0))
+
+returns-2 : tie.Need-returns-2 Inv-loop μ-loop
+returns-2 c = λ e. absurd (true≢false (sym e))
+
 add-past : tie.Need-add-past Inv-loop μ-loop
-add-past c = search needs
+add-past c = omega (arith, c .before .shared-slice-known2 .given (getD (c .before .before .before .before .before .before .args .order .now) (c .before .before .before .before .before .loop .k) 0))
 
 add-k : tie.Need-add-k Inv-loop μ-loop
 add-k c = search needs
@@ -44,13 +53,12 @@ loop-less c = search needs
 
 loop-again : tie.Need-loop-again Inv-loop μ-loop
 loop-again c =
-    let s = c .before .before .before .before .loop in
-    let a = c .before .before .before .before .before .before .before .args in
-    let e = c .before .value-at2 .ensures ∙ ap (λ (n : ℕ). getD (a .id .now) n 0) (c .before .before .value-at .ensures) in
-    chain-more (λ i. getD (a .id .now) i 0) (λ i. getD (a .id .now) i 0 + 1) (a .order .now) (s .k) (s .inv) (omega (arith, e)) (omega (arith, e)) (omega (arith, e))
+    let s = c .before .before .before .before .before .loop in
+    let a = c .before .before .before .before .before .before .args in
+    chain-more (λ i. getD (a .id .now) i 0) (λ i. getD (a .id .now) i 0 + 1) (a .order .now) (s .k) (s .inv) (c .if2 .left) (omega arith) refl
 
-returns-2 : tie.Need-returns-2 Inv-loop μ-loop
-returns-2 c = λ _. chain-all _ _ _ (c .before .loop .inv) (c .loop-test .left)
+returns-3 : tie.Need-returns-3 Inv-loop μ-loop
+returns-3 c = λ _. chain-all _ _ _ (c .before .loop .inv) (c .loop-test .left)
 
 pub ids-in-order-spec : {M : Type 1} → statement M
 ids-in-order-spec =
@@ -59,13 +67,16 @@ ids-in-order-spec =
     Inv-loop
     μ-loop
     loop-holds
-    value-at-requires
-    cast-value-at
-    value-at-requires-2
-    cast-own
+    mul-row
+    shared-slice-read-row
+    cast-row
     returns
+    mul-own
+    shared-slice-read-own
+    cast-own
+    returns-2
     add-past
     add-k
     loop-less
     loop-again
-    returns-2)
+    returns-3)

@@ -1,10 +1,10 @@
 -- `table::certifying::ranges_in_order` meets its contract. The loop's invariant: the ranges passed follow each other, and end before `past`.
-use mathlib.Core.Path.{sym, ap, _∙_}
+use mathlib.Core.Path.{refl, sym}
 use mathlib.Core.Bool.{true≢false}
-use Prim.Native.Nat.{ℕ, _+_, _-_}
+use Prim.Native.Nat.{_+_, _-_}
 use lib.ListN.{getD}
-use Rattle.table.proofs.Certificate.{Chain, chain-none, chain-more, chain-all}
 use native.Mathlib.Omega.{arith}
+use Rattle.table.proofs.Certificate.{Chain, chain-none, chain-more, chain-all}
 use borrow.Author.Needs.{needs}
 use Rattle.table.proofs.certifying.ranges_in_order.Statement.{statement}
 use Rattle.table.proofs.certifying.ranges_in_order.Tie as tie
@@ -18,29 +18,41 @@ abbrev μ-loop : tie.MeasureT-loop
 loop-holds : tie.Need-loop-holds Inv-loop μ-loop
 loop-holds c = chain-none _ _ _
 
-value-at-requires : tie.Need-value-at-requires Inv-loop μ-loop
-value-at-requires c κs = search needs
+mul-row : tie.Need-mul-row Inv-loop μ-loop
+mul-row c = search needs
+
+shared-slice-read-row : tie.Need-shared-slice-read-row Inv-loop μ-loop
+shared-slice-read-row c = search needs
 
 cast-row : tie.Need-cast-row Inv-loop μ-loop
-cast-row c = search needs
-
-value-at-requires-2 : tie.Need-value-at-requires-2 Inv-loop μ-loop
-value-at-requires-2 c κs = search needs
-
-cast-first : tie.Need-cast-first Inv-loop μ-loop
-cast-first c = search needs
+cast-row c = omega (arith, c .shared-slice-known .given (c .before .before .loop .k))
 
 returns : tie.Need-returns Inv-loop μ-loop
 returns c = λ e. absurd (true≢false (sym e))
 
-value-at-requires-3 : tie.Need-value-at-requires-3 Inv-loop μ-loop
-value-at-requires-3 c κs = search needs
+mul-first : tie.Need-mul-first Inv-loop μ-loop
+mul-first c = search needs
+
+shared-slice-read-first : tie.Need-shared-slice-read-first Inv-loop μ-loop
+shared-slice-read-first c = search needs
+
+cast-first : tie.Need-cast-first Inv-loop μ-loop
+cast-first c = omega (arith, c .shared-slice-known2 .given (getD (c .before .before .before .before .before .args .order .now) (c .before .before .before .before .loop .k) 0))
+
+returns-2 : tie.Need-returns-2 Inv-loop μ-loop
+returns-2 c = λ e. absurd (true≢false (sym e))
+
+mul-past : tie.Need-mul-past Inv-loop μ-loop
+mul-past c = search needs
+
+shared-slice-read-past : tie.Need-shared-slice-read-past Inv-loop μ-loop
+shared-slice-read-past c = search needs
 
 cast-past : tie.Need-cast-past Inv-loop μ-loop
-cast-past c = search needs
+cast-past c = omega (arith, c .shared-slice-known3 .given (getD (c .before .before .before .before .before .before .before .args .order .now) (c .before .before .before .before .before .before .loop .k) 0))
 
 add-past : tie.Need-add-past Inv-loop μ-loop
-add-past c = search needs
+add-past c = omega (arith, c .before .before .shared-slice-known2 .given (getD (c .before .before .before .before .before .before .before .args .order .now) (c .before .before .before .before .before .before .loop .k) 0), c .shared-slice-known3 .given (getD (c .before .before .before .before .before .before .before .args .order .now) (c .before .before .before .before .before .before .loop .k) 0))
 
 add-k : tie.Need-add-k Inv-loop μ-loop
 add-k c = search needs
@@ -50,15 +62,12 @@ loop-less c = search needs
 
 loop-again : tie.Need-loop-again Inv-loop μ-loop
 loop-again c =
-    let s = c .before .before .before .before .before .loop in
-    let a = c .before .before .before .before .before .before .before .before .before .args in
-    let row = c .before .before .before .value-at .ensures in
-    let e = c .before .before .value-at2 .ensures ∙ ap (λ (n : ℕ). getD (a .start .now) n 0) row in
-    let f = c .value-at3 .ensures ∙ ap (λ (n : ℕ). getD (a .size .now) n 0) row in
-    chain-more (λ i. getD (a .start .now) i 0) (λ i. getD (a .start .now) i 0 + getD (a .size .now) i 0) (a .order .now) (s .k) (s .inv) (omega (arith, e)) (omega (arith, e, f)) (omega (arith, e, f))
+    let s = c .before .before .before .before .before .before .loop in
+    let a = c .before .before .before .before .before .before .before .args in
+    chain-more (λ i. getD (a .start .now) i 0) (λ i. getD (a .start .now) i 0 + getD (a .size .now) i 0) (a .order .now) (s .k) (s .inv) (c .before .if2 .left) (omega arith) refl
 
-returns-2 : tie.Need-returns-2 Inv-loop μ-loop
-returns-2 c = λ _. chain-all _ _ _ (c .before .loop .inv) (c .loop-test .left)
+returns-3 : tie.Need-returns-3 Inv-loop μ-loop
+returns-3 c = λ _. chain-all _ _ _ (c .before .loop .inv) (c .loop-test .left)
 
 pub ranges-in-order-spec : {M : Type 1} → statement M
 ranges-in-order-spec =
@@ -67,15 +76,19 @@ ranges-in-order-spec =
     Inv-loop
     μ-loop
     loop-holds
-    value-at-requires
+    mul-row
+    shared-slice-read-row
     cast-row
-    value-at-requires-2
-    cast-first
     returns
-    value-at-requires-3
+    mul-first
+    shared-slice-read-first
+    cast-first
+    returns-2
+    mul-past
+    shared-slice-read-past
     cast-past
     add-past
     add-k
     loop-less
     loop-again
-    returns-2)
+    returns-3)

@@ -1,25 +1,20 @@
--- `table::certifying::ranges_separate` meets its contract, whatever the sort gives: the certificate was tested.
+-- `table::certifying::ranges_separate` meets its contract. Whatever the sort gives, the certificate was tested.
 use mathlib.Core.Path.{sym}
 use mathlib.Core.Bool.{true≢false}
-use borrow.Author.Needs.{needs}
 use Rattle.table.proofs.Certificate.{separate}
+use borrow.Author.Needs.{needs}
+use borrow.Author.Needs.{needs}
 use Rattle.table.proofs.certifying.ranges_separate.Statement.{statement}
 use Rattle.table.proofs.certifying.ranges_separate.Tie as tie
 
-slice-aggregate-sort : tie.Need-slice-aggregate-sort
-slice-aggregate-sort c = search needs
+slice-aggregate-order-rows : tie.Need-slice-aggregate-order-rows
+slice-aggregate-order-rows c = search needs
 
-sort-requires : tie.Need-sort-requires
-sort-requires c κs = search needs
+slice-aggregate-order-rows-2 : tie.Need-slice-aggregate-order-rows-2
+slice-aggregate-order-rows-2 c = search needs
 
-slice-aggregate-find-places : tie.Need-slice-aggregate-find-places
-slice-aggregate-find-places c = search needs
-
-slice-aggregate-find-places-2 : tie.Need-slice-aggregate-find-places-2
-slice-aggregate-find-places-2 c = search needs
-
-find-places-requires : tie.Need-find-places-requires
-find-places-requires c κs = search needs
+order-rows-requires : tie.Need-order-rows-requires
+order-rows-requires c κs = search needs
 
 slice-aggregate-all-placed : tie.Need-slice-aggregate-all-placed
 slice-aggregate-all-placed c = search needs
@@ -46,11 +41,9 @@ pub ranges-separate-spec : {M : Type 1} → statement M
 ranges-separate-spec =
     tie.close
     (tie.spec
-    slice-aggregate-sort
-    sort-requires
-    slice-aggregate-find-places
-    slice-aggregate-find-places-2
-    find-places-requires
+    slice-aggregate-order-rows
+    slice-aggregate-order-rows-2
+    order-rows-requires
     slice-aggregate-all-placed
     slice-aggregate-all-placed-2
     all-placed-requires

@@ -13,7 +13,7 @@ unfolding soundRows
 returns c = rw (sym (c .before .some-value-bad .ensures) ∙ c .if1 .taken)
 
 no-pair-requires : tie.Need-no-pair-requires
-no-pair-requires c κs = sym (c .before .some-value-bad .ensures) ∙ c .if1 .left
+no-pair-requires c κs = (c .before .before .before .before .before .before .pre, sym (c .before .some-value-bad .ensures) ∙ c .if1 .left)
 
 returns-2 : tie.Need-returns-2
 unfolding soundRows
