@@ -14,7 +14,7 @@ use crate::sorting::sort;
 use rules::MOST_ROWS;
 
 // Fewer rows than these are sooner held against each other than sorted.
-const MANY_ROWS: usize = 32;
+const MANY_ROWS: usize = 36;
 
 // The rows in the order of their keys, and each row's place.
 fn find_places(keys: &[u64], count: usize, order: &mut [u32], place: &mut [u32])

@@ -2,6 +2,7 @@
 use mathlib.Core.Path.{_≡_}
 use Prim.Native.Nat.{_-_}
 use lib.ListN.{length}
+use native.Mathlib.Omega.{arith}
 use borrow.Author.Needs.{needs}
 use Rattle.table.proofs.certifying.find_places.Statement.{statement}
 use Rattle.table.proofs.certifying.find_places.Tie as tie
@@ -13,40 +14,40 @@ abbrev μ-loop : tie.MeasureT-loop
 μ-loop keys count order₀ place₀ k₀ order place k = count - k
 
 loop-holds : tie.Need-loop-holds Inv-loop μ-loop
-loop-holds c = search needs
+loop-holds c = omega arith
 
 mul-row-of : tie.Need-mul-row-of Inv-loop μ-loop
-mul-row-of c = search needs
+mul-row-of c = omega arith
 
 shared-slice-read-row-of : tie.Need-shared-slice-read-row-of Inv-loop μ-loop
-shared-slice-read-row-of c = search needs
+shared-slice-read-row-of c = omega arith
 
 row-of-requires : tie.Need-row-of-requires Inv-loop μ-loop
-row-of-requires c κs = search needs
+row-of-requires c κs = tt
 
 cast-order : tie.Need-cast-order Inv-loop μ-loop
-cast-order c = search needs
+cast-order c = omega arith
 
 mul-order : tie.Need-mul-order Inv-loop μ-loop
-mul-order c = search needs
+mul-order c = omega arith
 
 slice-write-order : tie.Need-slice-write-order Inv-loop μ-loop
-slice-write-order c = search needs
+slice-write-order c = omega arith
 
 cast-place : tie.Need-cast-place Inv-loop μ-loop
-cast-place c = search needs
+cast-place c = omega arith
 
 mul-place : tie.Need-mul-place Inv-loop μ-loop
-mul-place c = search needs
+mul-place c = omega arith
 
 slice-write-place : tie.Need-slice-write-place Inv-loop μ-loop
-slice-write-place c = search needs
+slice-write-place c = omega arith
 
 add-k : tie.Need-add-k Inv-loop μ-loop
-add-k c = search needs
+add-k c = omega arith
 
 loop-less : tie.Need-loop-less Inv-loop μ-loop
-loop-less c = search needs
+loop-less c = omega arith
 
 loop-again : tie.Need-loop-again Inv-loop μ-loop
 loop-again c = search needs

@@ -5,7 +5,6 @@ use Prim.Native.Nat.{_+_, _-_}
 use lib.ListN.{getD}
 use native.Mathlib.Omega.{arith}
 use Rattle.table.proofs.Certificate.{Chain, chain-none, chain-more, chain-all}
-use borrow.Author.Needs.{needs}
 use Rattle.table.proofs.certifying.ids_in_order.Statement.{statement}
 use Rattle.table.proofs.certifying.ids_in_order.Tie as tie
 
@@ -19,10 +18,10 @@ loop-holds : tie.Need-loop-holds Inv-loop μ-loop
 loop-holds c = chain-none _ _ _
 
 mul-row : tie.Need-mul-row Inv-loop μ-loop
-mul-row c = search needs
+mul-row c = omega arith
 
 shared-slice-read-row : tie.Need-shared-slice-read-row Inv-loop μ-loop
-shared-slice-read-row c = search needs
+shared-slice-read-row c = omega arith
 
 cast-row : tie.Need-cast-row Inv-loop μ-loop
 cast-row c = omega (arith, c .shared-slice-known .given (c .before .before .loop .k))
@@ -31,10 +30,10 @@ returns : tie.Need-returns Inv-loop μ-loop
 returns c = λ e. absurd (true≢false (sym e))
 
 mul-own : tie.Need-mul-own Inv-loop μ-loop
-mul-own c = search needs
+mul-own c = omega arith
 
 shared-slice-read-own : tie.Need-shared-slice-read-own Inv-loop μ-loop
-shared-slice-read-own c = search needs
+shared-slice-read-own c = omega arith
 
 cast-own : tie.Need-cast-own Inv-loop μ-loop
 cast-own c = omega (arith, c .shared-slice-known2 .given (getD (c .before .before .before .before .before .args .order .now) (c .before .before .before .before .loop .k) 0))
@@ -46,10 +45,10 @@ add-past : tie.Need-add-past Inv-loop μ-loop
 add-past c = omega (arith, c .before .shared-slice-known2 .given (getD (c .before .before .before .before .before .before .args .order .now) (c .before .before .before .before .before .loop .k) 0))
 
 add-k : tie.Need-add-k Inv-loop μ-loop
-add-k c = search needs
+add-k c = omega arith
 
 loop-less : tie.Need-loop-less Inv-loop μ-loop
-loop-less c = search needs
+loop-less c = omega arith
 
 loop-again : tie.Need-loop-again Inv-loop μ-loop
 loop-again c =

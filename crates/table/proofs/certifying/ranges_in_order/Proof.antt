@@ -5,7 +5,6 @@ use Prim.Native.Nat.{_+_, _-_}
 use lib.ListN.{getD}
 use native.Mathlib.Omega.{arith}
 use Rattle.table.proofs.Certificate.{Chain, chain-none, chain-more, chain-all}
-use borrow.Author.Needs.{needs}
 use Rattle.table.proofs.certifying.ranges_in_order.Statement.{statement}
 use Rattle.table.proofs.certifying.ranges_in_order.Tie as tie
 
@@ -19,10 +18,10 @@ loop-holds : tie.Need-loop-holds Inv-loop μ-loop
 loop-holds c = chain-none _ _ _
 
 mul-row : tie.Need-mul-row Inv-loop μ-loop
-mul-row c = search needs
+mul-row c = omega arith
 
 shared-slice-read-row : tie.Need-shared-slice-read-row Inv-loop μ-loop
-shared-slice-read-row c = search needs
+shared-slice-read-row c = omega arith
 
 cast-row : tie.Need-cast-row Inv-loop μ-loop
 cast-row c = omega (arith, c .shared-slice-known .given (c .before .before .loop .k))
@@ -31,10 +30,10 @@ returns : tie.Need-returns Inv-loop μ-loop
 returns c = λ e. absurd (true≢false (sym e))
 
 mul-first : tie.Need-mul-first Inv-loop μ-loop
-mul-first c = search needs
+mul-first c = omega arith
 
 shared-slice-read-first : tie.Need-shared-slice-read-first Inv-loop μ-loop
-shared-slice-read-first c = search needs
+shared-slice-read-first c = omega arith
 
 cast-first : tie.Need-cast-first Inv-loop μ-loop
 cast-first c = omega (arith, c .shared-slice-known2 .given (getD (c .before .before .before .before .before .args .order .now) (c .before .before .before .before .loop .k) 0))
@@ -43,10 +42,10 @@ returns-2 : tie.Need-returns-2 Inv-loop μ-loop
 returns-2 c = λ e. absurd (true≢false (sym e))
 
 mul-past : tie.Need-mul-past Inv-loop μ-loop
-mul-past c = search needs
+mul-past c = omega arith
 
 shared-slice-read-past : tie.Need-shared-slice-read-past Inv-loop μ-loop
-shared-slice-read-past c = search needs
+shared-slice-read-past c = omega arith
 
 cast-past : tie.Need-cast-past Inv-loop μ-loop
 cast-past c = omega (arith, c .shared-slice-known3 .given (getD (c .before .before .before .before .before .before .before .args .order .now) (c .before .before .before .before .before .before .loop .k) 0))
@@ -55,10 +54,10 @@ add-past : tie.Need-add-past Inv-loop μ-loop
 add-past c = omega (arith, c .before .before .shared-slice-known2 .given (getD (c .before .before .before .before .before .before .before .args .order .now) (c .before .before .before .before .before .before .loop .k) 0), c .shared-slice-known3 .given (getD (c .before .before .before .before .before .before .before .args .order .now) (c .before .before .before .before .before .before .loop .k) 0))
 
 add-k : tie.Need-add-k Inv-loop μ-loop
-add-k c = search needs
+add-k c = omega arith
 
 loop-less : tie.Need-loop-less Inv-loop μ-loop
-loop-less c = search needs
+loop-less c = omega arith
 
 loop-again : tie.Need-loop-again Inv-loop μ-loop
 loop-again c =
