@@ -1,5 +1,5 @@
 -- What a read comes to: where it is refused, and the rows that it finds.
-use mathlib.Core.Path.{_≡_, refl, ap, sym, _∙_}
+use mathlib.Core.Path.{_≡_, ap, sym, _∙_}
 use mathlib.Core.Bool.{true, false}
 use mathlib.Core.List.{List}
 use Prim.Native.Nat.{ℕ, _<_, _≤_}
@@ -10,7 +10,7 @@ use Rattle.rules.specs.Answers.{Answer, answer, refused, then}
 use Rattle.rules.specs.Limits.{mostRows}
 use Rattle.rules.specs.Refusals.{refusalNumber}
 use Rattle.rules.specs.declared.Refusal.{Refusal}
-use Rattle.rules.proofs.Answers.{same-answer, never-refused}
+use Rattle.rules.proofs.Answers.{same-answer, never-refused, then-answer, then-refused}
 use Rattle.number.specs.Number.{found, numberAt}
 use Rattle.table.specs.Columns.{Row, Columns, rows, put, counted, afterwards}
 use Rattle.table.specs.Check.{lengthsBad, countBad, soundRows, checked}
@@ -41,12 +41,10 @@ module _ {a : Answer (List Row)} (c : Columns) where
 -- ## The rows, up to the bytes' end
 
 next-refused : (a : Answer Rows) {n : ℕ} → refused n ≡ then a (λ (s : Rows). answer (s .next)) → a ≡ refused n
-next-refused (answer s) e = never-refused e
-next-refused (refused m) {n} e = let f : m ≡ n = cc in ap refused f
+next-refused a e = then-refused a (λ s. s .next) (sym e)
 
 next-at : (a : Answer Rows) {end : ℕ} → answer end ≡ then a (λ (s : Rows). answer (s .next)) → (s : Rows) × (a ≡ answer s) × (s .next ≡ end)
-next-at (answer s) e = (s, refl, sym (same-answer e))
-next-at (refused m) e = never-refused (sym e)
+next-at a e = let f = then-answer a _ (sym e) in (f .0, f .1, same-answer (f .2))
 
 module _ (bytes : List ℕ) (at count : ℕ) {t : List Row} {v : Ended} (e : endSays v ≡ then (rowsAt count bytes at) (λ (s : Rows). answer (s .next)))
     (f : (s : Rows) → rowsAt count bytes at ≡ answer s → t ≡ s .rows)

@@ -1,12 +1,12 @@
 -- What the check of the columns says of them.
-use mathlib.Core.Path.{_≡_, refl, ap, sym, _∙_}
+use mathlib.Core.Path.{_≡_, ap, sym, _∙_}
 use mathlib.Core.Bool.{false}
 use mathlib.Core.List.{List}
 use Prim.Native.Nat.{ℕ, _≤_}
 use lib.ListN.{length}
 use Rattle.rules.specs.Answers.{Answer, answer, refused}
 use Rattle.rules.specs.Refusals.{refusalNumber}
-use Rattle.rules.proofs.Answers.{same-answer, never-refused, peel}
+use Rattle.rules.proofs.Answers.{same-answer, peel, then-answer, then-refused}
 use Rattle.rules.proofs.Bools.{or-none}
 use Rattle.table.specs.Columns.{Row, Columns, rows}
 use Rattle.table.specs.Check.{someRow, somePair, lengthsBad, valueBad, sameId, rangesMeet, soundRows, checked}
@@ -54,12 +54,10 @@ pub passed-holds : {c : Columns} {count : ℕ} → Passed c count → Holds c co
 passed-holds p = holds-count (p .lengths) (p .most)
 
 pub given-answer : {A : Type 0} (a : Answer A) → given a ≡ answer tt → (x : A) × (a ≡ answer x)
-given-answer (answer x) e = (x, refl)
-given-answer (refused n) e = never-refused e
+given-answer a e = let f = then-answer a _ e in (f .0, f .1)
 
 pub given-refused : {A : Type 0} (a : Answer A) {n : ℕ} → given a ≡ refused n → a ≡ refused n
-given-refused (answer x) e = never-refused (sym e)
-given-refused (refused m) {n} e = let f : m ≡ n = cc in ap refused f
+given-refused a e = then-refused a (λ _. tt) e
 
 -- what a verdict of the code means
 module _ (c : Columns) (count : ℕ) {v : Checked} (e : checkedSays v ≡ given (checked c count)) where

@@ -1,6 +1,6 @@
 //! Passes, grants and decisions over them.
 
-use crate::{answer, ffi, write_number, Decision, Refusal};
+use crate::{lent, write_number, Decision, Refusal};
 
 /// A group's two numbers, as a line in the field holds them.
 #[derive(Clone, Copy, PartialEq, Eq, Hash, Debug)]
@@ -56,5 +56,5 @@ pub fn grants(grants: &[Grant]) -> Vec<u8> {
 
 /// Decides a feature for a pass on a day, over a grant list's bytes; an empty list is one too.
 pub fn decide(feature: u32, pass: Pass, day: u32, grants: &[u8]) -> Result<Decision, Refusal> {
-    answer::decision(ffi::decide(feature, pass.l, pass.r, day, grants))
+    lent::decide(feature, pass.l, pass.r, day, grants)
 }
