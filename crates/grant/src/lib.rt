@@ -8,6 +8,7 @@ ghost use Rattle.grant.specs.Grant.{grant, checkedGrant, grantAt};
 ghost use Rattle.grant.specs.Decision.{appliesTo, decided, asked};
 ghost use Rattle.grant.specs.Tally.{tally, countIn, earlier, countIfApplies, decisionOf};
 ghost use Rattle.grant.specs.Says.{grantSays, decidedSays};
+ghost use Rattle.rules.specs.Lent.{old};
 use boxes::LValue;
 use boxes::RValue;
 use number::Drawn;
@@ -74,7 +75,7 @@ fn checked_grant(feature: u32, l: u32, r: u32, first: u32, last: u32, next: usiz
 
 // The grant at a position: 1, 2, then 14.
 fn grant_at(bytes: &[u8], at: usize) -> GrantDrawn
-    ensures { λ t. ⌜ grantSays t ≡ grantAt (now (bytes .entry)) at ⌝ }
+    ensures { λ t. ⌜ grantSays t ≡ grantAt (old bytes) at ⌝ }
 {
     match number_at(bytes, at) {
         Drawn::Refused(why) => GrantDrawn::Refused(why),
@@ -211,7 +212,7 @@ fn decision_of(t: Tally) -> Decided
 // The decision on a feature for a pass (l, r) and a day: 15, then the whole list from left to right (1, 2, 14).
 // One pass over the bytes, with any number of grants.
 pub fn decide(feature: u32, l: u32, r: u32, day: u32, grants: &[u8]) -> Decided
-    ensures { λ t. ⌜ decidedSays t ≡ decided feature l r day (now (grants .entry)) ⌝ }
+    ensures { λ t. ⌜ decidedSays t ≡ decided feature l r day (old grants) ⌝ }
 {
     if feature == 0 {
         return Decided::Refused(Refusal::Question);
@@ -248,7 +249,7 @@ pub fn decide(feature: u32, l: u32, r: u32, day: u32, grants: &[u8]) -> Decided
 
 // A question in bytes: feature, l, r and day (1 or 2 for a bad one, then 15), then a grant list.
 pub fn question(bytes: &[u8]) -> Decided
-    ensures { λ t. ⌜ decidedSays t ≡ asked (now (bytes .entry)) ⌝ }
+    ensures { λ t. ⌜ decidedSays t ≡ asked (old bytes) ⌝ }
 {
     match number_at(bytes, 0) {
         Drawn::Refused(why) => Decided::Refused(why),

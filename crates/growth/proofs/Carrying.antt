@@ -5,13 +5,13 @@ use Prim.Native.Nat.{ℕ, zero, suc, _+_, _*_, _-_, _<_, _≤_}
 use native.Mathlib.Omega.{arith}
 use lib.ListN.{length, length-append}
 use borrow.Author.Tests.{le-leb, lt-leb}
-use Rattle.rules.specs.Answers.{Answer, answer, refused}
+use Rattle.rules.specs.Answers.{Answer, answer, refused, orElse}
 use Rattle.rules.specs.Buffers.{after}
 use Rattle.rules.proofs.Buffers.{after-all, after-same, after-then}
 use Rattle.table.specs.Columns.{Columns, counted, afterwards}
 use Rattle.refine.specs.Refine.{refined}
 use Rattle.growth.specs.Lines.{lineText}
-use Rattle.growth.specs.Growth.{Part, partAt, bytesIn, Growth, grown, headed, countAfter, partThen, requestThen, requestsFrom, lineRoom, tableRoom}
+use Rattle.growth.specs.Growth.{Part, partAt, bytesIn, Growth, grown, headed, partThen, requestThen, requestsFrom, lineRoom, tableRoom}
 use Rattle.growth.specs.Says.{Fitting, Carried}
 use Rattle.growth.proofs.Printing.{line-most}
 use Rattle.growth.proofs.Reading.{part-in, refined-within}
@@ -30,7 +30,7 @@ module _ (log : List ℕ) (at : ℕ) (c : Columns) (count : ℕ) where
 
   pub goes-on : (k : ℕ) {p : Part} → at < length log → partAt log at ≡ answer p
       → requestsFrom (suc k) log at c count
-      ≡ headed (lineText (counted (refined c count (bytesIn log p)))) (requestsFrom k log (p .end) (afterwards (refined c count (bytesIn log p)) c) (countAfter (counted (refined c count (bytesIn log p))) count))
+      ≡ headed (lineText (counted (refined c count (bytesIn log p)))) (requestsFrom k log (p .end) (afterwards (refined c count (bytesIn log p)) c) (orElse (counted (refined c count (bytesIn log p))) count))
   unfolding requestsFrom partThen requestThen
   goes-on k h e = rw (lt-leb _ _ h, e)
 
@@ -68,7 +68,7 @@ fitting-on f a h =
       within = omega (arith, a .in-id);
     }
 
-pub count-within : {count rows : ℕ} (a : Answer ℕ) → count ≤ rows → ((n : ℕ) → a ≡ answer n → n ≤ rows) → countAfter a count ≤ rows
+pub count-within : {count rows : ℕ} (a : Answer ℕ) → count ≤ rows → ((n : ℕ) → a ≡ answer n → n ≤ rows) → orElse a count ≤ rows
 count-within (answer n) h k = k n refl
 count-within (refused n) h k = h
 
@@ -105,7 +105,7 @@ module _ {log : List ℕ} {from : ℕ} {c₀ : Columns} {text₀ : List ℕ} whe
     again : (k : ℕ) → requestsFrom (length log) log from c₀ 1 ≡ headed (g .done) (requestsFrom k log at c count) → length log ≤ at + k
         → (part : Part) → at < length log → partAt log at ≡ answer part
         → {d : Columns} {next : List ℕ} {n m : ℕ} (a : Answer ℕ) → a ≡ counted (refined c count (bytesIn log part)) → d ≡ afterwards (refined c count (bytesIn log part)) c → Alike c d
-        → n ≡ p + length (lineText a) → next ≡ after text p (lineText a) → m ≡ countAfter a count
+        → n ≡ p + length (lineText a) → next ≡ after text p (lineText a) → m ≡ orElse a count
         → Going log from c₀ text₀ d next (part .end) m n
     again zero w k part h e a ea ed al en ex em = absurd (omega arith)
     again (suc k) w l part h e {d} {next} {n} {m} a ea ed al en ex em =
@@ -132,7 +132,7 @@ module _ {log : List ℕ} {from : ℕ} {c₀ : Columns} {text₀ : List ℕ} whe
 
     pub going-again : (part : Part) → at < length log → partAt log at ≡ answer part
         → {d : Columns} {next : List ℕ} {n m : ℕ} (a : Answer ℕ) → a ≡ counted (refined c count (bytesIn log part)) → d ≡ afterwards (refined c count (bytesIn log part)) c → Alike c d
-        → n ≡ p + length (lineText a) → next ≡ after text p (lineText a) → m ≡ countAfter a count
+        → n ≡ p + length (lineText a) → next ≡ after text p (lineText a) → m ≡ orElse a count
         → Going log from c₀ text₀ d next (part .end) m n
     going-again = again (g .most) (g .whole) (g .enough)
 

@@ -6,7 +6,7 @@ use native.Mathlib.Omega.{arith}
 use lib.Dec.{leb}
 use lib.ListN.{length, length-append}
 use borrow.Author.Tests.{leb-true}
-use Rattle.rules.specs.Answers.{Answer, answer, refused}
+use Rattle.rules.specs.Answers.{Answer, answer, refused, orElse}
 use Rattle.rules.specs.Limits.{mostRows}
 use Rattle.rules.proofs.Answers.{same-answer, by-answer, wanted}
 use Rattle.rules.proofs.Cases.{by-lt}
@@ -16,7 +16,7 @@ use Rattle.table.proofs.Lengths.{put-length}
 use Rattle.refine.specs.Refine.{refined}
 use Rattle.refine.proofs.Fitting.{refined-fits}
 use Rattle.growth.specs.Lines.{lineText, tableText}
-use Rattle.growth.specs.Growth.{partAt, bytesIn, begun, Growth, grown, countAfter, requestsFrom, growText, growRoom, growAnswer, lineRoom, tableRoom}
+use Rattle.growth.specs.Growth.{partAt, bytesIn, begun, Growth, grown, requestsFrom, growText, growRoom, growAnswer, lineRoom, tableRoom}
 use Rattle.growth.proofs.Printing.{line-most, rows-most, table-count}
 use Rattle.growth.proofs.Reading.{part-in, refined-within, begun-in}
 use Rattle.growth.proofs.Carrying.{stop, bad, goes-on, count-within}
@@ -32,7 +32,7 @@ after-length (answer t) c h = put-length t c (h t refl)
 after-length (refused n) c h = refl
 
 sized-after : (c : Columns) (count : ℕ) (bytes : List ℕ) → Sized c count
-    → Sized (afterwards (refined c count bytes) c) (countAfter (counted (refined c count bytes)) count)
+    → Sized (afterwards (refined c count bytes) c) (orElse (counted (refined c count bytes)) count)
 sized-after c count bytes s =
     let f = refined c count bytes in
     let e = after-length f c (λ t e. refined-fits c count bytes e) in
@@ -59,8 +59,8 @@ requests-few (suc k) log at c count s =
     (λ p e.
     let f = refined c count (bytesIn log p) in
     let i = part-in log at p e in
-    let r = requests-few k log (p .end) (afterwards f c) (countAfter (counted f) count) (sized-after c count (bytesIn log p) s) in
-    let n = length-append (lineText (counted f)) (requestsFrom k log (p .end) (afterwards f c) (countAfter (counted f) count) .text) in
+    let r = requests-few k log (p .end) (afterwards f c) (orElse (counted f) count) (sized-after c count (bytesIn log p) s) in
+    let n = length-append (lineText (counted f)) (requestsFrom k log (p .end) (afterwards f c) (orElse (counted f) count) .text) in
     few-is (goes-on log at c count k h e) (record { lines = omega (arith, i, n, r .lines, line-most (counted f)); rows = r .rows }))
     (λ n e. few-is (bad log at c count k h e) (record { lines = omega (arith, line-most (refused n)); rows = omega (arith, s .most, s .within) })))
     (λ h. few-is (stop log at c count (suc k) h) (record { lines = omega arith; rows = omega (arith, s .most, s .within) }))

@@ -4,7 +4,7 @@ use mathlib.Core.Bool.{cond}
 use mathlib.Core.List.{List, [], _++_}
 use lib.Dec.{leb, ltb}
 use lib.ListN.{length, take, drop}
-use Rattle.rules.specs.Answers.{Answer, answer, refused, then}
+use Rattle.rules.specs.Answers.{Answer, answer, refused, then, orElse}
 use Rattle.rules.specs.Buffers.{after}
 use Rattle.number.specs.Number.{numberAt}
 use Rattle.table.specs.Columns.{Row, Columns, rows, put, counted, afterwards}
@@ -40,19 +40,14 @@ grown c count text = record { table = c; count = count; text = text }
 abbrev pub headed : List ℕ → Growth → Growth
 headed lines g = grown (g .table) (g .count) (lines ++ g .text)
 
--- the count goes on as it was after a refused request
-abbrev pub countAfter : Answer ℕ → ℕ → ℕ
-countAfter (answer n) count = n
-countAfter (refused n) count = count
-
 -- a bad length prints its `no` and ends the requests
 unfoldable pub partThen : Answer Part → Columns → ℕ → (Part → Growth) → Growth
 partThen (answer p) c count more = more p
 partThen (refused n) c count more = grown c count (lineText (refused n))
 
--- one request, and then others
+-- one request, and then others; the count goes on as it was after a refused one
 unfoldable pub requestThen : Answer (List Row) → Columns → ℕ → (Columns → ℕ → Growth) → Growth
-requestThen found c count more = headed (lineText (counted found)) (more (afterwards found c) (countAfter (counted found) count))
+requestThen found c count more = headed (lineText (counted found)) (more (afterwards found c) (orElse (counted found) count))
 
 -- the requests from a position of the log on, at most `most` of them
 unfoldable pub requestsFrom : ℕ → List ℕ → ℕ → Columns → ℕ → Growth

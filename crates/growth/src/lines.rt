@@ -5,12 +5,14 @@ ghost use Prim.Native.Nat.{_+_, _*_, _≤_};
 ghost use lib.ListN.{length};
 ghost use Rattle.rules.specs.Buffers.{after};
 ghost use Rattle.rules.specs.Limits.{mostRows};
-ghost use Rattle.table.specs.Columns.{columns, rows};
+ghost use Rattle.table.specs.Columns.{rows};
 ghost use Rattle.table.specs.Held.{Holds};
 ghost use Rattle.table.specs.Says.{countedSays};
 ghost use Rattle.growth.specs.Growth.{tableRoom};
 ghost use Rattle.growth.specs.Lines.{fieldText, lineText, headingText, rowText, rowsText, tableText};
 ghost use Rattle.growth.specs.Says.{Countable};
+ghost use Rattle.rules.specs.Lent.{old, new};
+ghost use Rattle.table.specs.Lent.{oldColumns, lentColumns};
 use table::Counted;
 use text::decimal_length;
 use text::write_bytes;
@@ -24,7 +26,7 @@ const LINE_FEED: u8 = 10;
 fn write_field(buffer: &mut [u8], p: usize, n: u32, last: u8) -> usize
     requires { ⌜ p + 11 ≤ length (now buffer) ⌝ }
     ensures { λ r. ⌜ r ≡ p + length (fieldText n last) ⌝ }
-    ensures { λ r. ⌜ now (buffer .exit) ≡ after (now (buffer .entry)) p (fieldText n last) ⌝ }
+    ensures { λ r. ⌜ new buffer ≡ after (old buffer) p (fieldText n last) ⌝ }
 {
     let at = p + decimal_length(n);
     write_decimal(&mut *buffer, p, n);
@@ -35,8 +37,8 @@ fn write_field(buffer: &mut [u8], p: usize, n: u32, last: u8) -> usize
 // Writes a word and a number on one line.
 fn write_line(buffer: &mut [u8], p: usize, word: &[u8], n: u32) -> usize
     requires { ⌜ p + length (now word) + 11 ≤ length (now buffer) ⌝ }
-    ensures { λ r. ⌜ r ≡ p + length (now (word .entry) ++ fieldText n 10) ⌝ }
-    ensures { λ r. ⌜ now (buffer .exit) ≡ after (now (buffer .entry)) p (now (word .entry) ++ fieldText n 10) ⌝ }
+    ensures { λ r. ⌜ r ≡ p + length (old word ++ fieldText n 10) ⌝ }
+    ensures { λ r. ⌜ new buffer ≡ after (old buffer) p (old word ++ fieldText n 10) ⌝ }
 {
     let at = p + word.len();
     write_bytes(&mut *buffer, p, word);
@@ -48,7 +50,7 @@ pub(crate) fn write_answer(buffer: &mut [u8], p: usize, a: Counted) -> usize
     requires { ⌜ p + 14 ≤ length (now buffer) ⌝ }
     requires { ⌜ Countable (countedSays a) ⌝ }
     ensures { λ r. ⌜ r ≡ p + length (lineText (countedSays a)) ⌝ }
-    ensures { λ r. ⌜ now (buffer .exit) ≡ after (now (buffer .entry)) p (lineText (countedSays a)) ⌝ }
+    ensures { λ r. ⌜ new buffer ≡ after (old buffer) p (lineText (countedSays a)) ⌝ }
 {
     match a {
         Counted::Count(n) => write_line(buffer, p, b"ok ", n as u32),
@@ -60,7 +62,7 @@ pub(crate) fn write_answer(buffer: &mut [u8], p: usize, a: Counted) -> usize
 fn write_row(buffer: &mut [u8], p: usize, id: u32, l: u32, r: u32, q: u32) -> usize
     requires { ⌜ p + 44 ≤ length (now buffer) ⌝ }
     ensures { λ t. ⌜ t ≡ p + length (rowText (record { id = id; l = l; r = r; q = q })) ⌝ }
-    ensures { λ t. ⌜ now (buffer .exit) ≡ after (now (buffer .entry)) p (rowText (record { id = id; l = l; r = r; q = q })) ⌝ }
+    ensures { λ t. ⌜ new buffer ≡ after (old buffer) p (rowText (record { id = id; l = l; r = r; q = q })) ⌝ }
 {
     let l_at = write_field(&mut *buffer, p, id, SPACE);
     let r_at = write_field(&mut *buffer, l_at, l, SPACE);
@@ -78,10 +80,10 @@ fn write_rows(
     q: &[u32],
     count: usize,
 ) -> usize
-    requires { ⌜ Holds (columns (now id) (now l) (now r) (now q)) count ⌝ }
+    requires { ⌜ Holds (lentColumns id l r q) count ⌝ }
     requires { ⌜ p + 44 * count ≤ length (now buffer) ⌝ }
-    ensures { λ t. ⌜ t ≡ p + length (rowsText (rows (columns (now (id .entry)) (now (l .entry)) (now (r .entry)) (now (q .entry))) count)) ⌝ }
-    ensures { λ t. ⌜ now (buffer .exit) ≡ after (now (buffer .entry)) p (rowsText (rows (columns (now (id .entry)) (now (l .entry)) (now (r .entry)) (now (q .entry))) count)) ⌝ }
+    ensures { λ t. ⌜ t ≡ p + length (rowsText (rows (oldColumns id l r q) count)) ⌝ }
+    ensures { λ t. ⌜ new buffer ≡ after (old buffer) p (rowsText (rows (oldColumns id l r q) count)) ⌝ }
 {
     let mut at = p;
     let mut i = 0;
@@ -96,7 +98,7 @@ fn write_rows(
 fn write_heading(buffer: &mut [u8], p: usize) -> usize
     requires { ⌜ p + 16 ≤ length (now buffer) ⌝ }
     ensures { λ t. ⌜ t ≡ p + length headingText ⌝ }
-    ensures { λ t. ⌜ now (buffer .exit) ≡ after (now (buffer .entry)) p headingText ⌝ }
+    ensures { λ t. ⌜ new buffer ≡ after (old buffer) p headingText ⌝ }
 {
     write_bytes(buffer, p, b"group l r quota\n");
     p + 16
@@ -112,11 +114,11 @@ pub(crate) fn write_table(
     q: &[u32],
     count: usize,
 ) -> usize
-    requires { ⌜ Holds (columns (now id) (now l) (now r) (now q)) count ⌝ }
+    requires { ⌜ Holds (lentColumns id l r q) count ⌝ }
     requires { ⌜ count ≤ mostRows ⌝ }
     requires { ⌜ p + tableRoom ≤ length (now buffer) ⌝ }
-    ensures { λ t. ⌜ t ≡ p + length (tableText (rows (columns (now (id .entry)) (now (l .entry)) (now (r .entry)) (now (q .entry))) count)) ⌝ }
-    ensures { λ t. ⌜ now (buffer .exit) ≡ after (now (buffer .entry)) p (tableText (rows (columns (now (id .entry)) (now (l .entry)) (now (r .entry)) (now (q .entry))) count)) ⌝ }
+    ensures { λ t. ⌜ t ≡ p + length (tableText (rows (oldColumns id l r q) count)) ⌝ }
+    ensures { λ t. ⌜ new buffer ≡ after (old buffer) p (tableText (rows (oldColumns id l r q) count)) ⌝ }
 {
     let at = write_heading(&mut *buffer, p);
     write_rows(&mut *buffer, at, id, l, r, q, count)

@@ -2,12 +2,14 @@
 ghost use mathlib.Core.Path.{_≡_};
 ghost use Prim.Native.Nat.{ℕ, _+_, _*_, _-_, _≤_};
 ghost use lib.ListN.{length};
-ghost use Rattle.rules.specs.Answers.{answer, then};
+ghost use Rattle.rules.specs.Answers.{answer, then, orElse};
 ghost use Rattle.number.specs.Says.{writtenSays};
-ghost use Rattle.table.specs.Columns.{columns, put};
+ghost use Rattle.table.specs.Columns.{put};
 ghost use Rattle.table.specs.Says.{countedSays};
-ghost use Rattle.growth.specs.Growth.{partAt, countAfter, requestsFrom, begun, begunAt, begunTable, growAnswer, growBuffer, growTable, lineRoom, tableRoom};
+ghost use Rattle.growth.specs.Growth.{partAt, requestsFrom, begun, begunAt, begunTable, growAnswer, growBuffer, growTable, lineRoom, tableRoom};
 ghost use Rattle.growth.specs.Says.{requestSays, startedSays, Fitting, Carried};
+ghost use Rattle.rules.specs.Lent.{old, new};
+ghost use Rattle.table.specs.Lent.{oldColumns, newColumns, lentColumns};
 use crate::Reached;
 use crate::Request;
 use crate::Started;
@@ -28,7 +30,7 @@ const LINE_ROOM: usize = 14;
 
 // The request whose length stands at a position.
 fn request_at(log: &[u8], at: usize) -> Request
-    ensures { λ r. ⌜ requestSays r ≡ partAt (now (log .entry)) at ⌝ }
+    ensures { λ r. ⌜ requestSays r ≡ partAt (old log) at ⌝ }
 {
     match number_at(log, at) {
         Drawn::Refused(why) => Request::Refused(why),
@@ -43,7 +45,7 @@ fn request_at(log: &[u8], at: usize) -> Request
 
 // The count after a request: the new one, or the old one where the request was refused.
 fn count_after(a: Counted, count: usize) -> usize
-    ensures { λ n. ⌜ n ≡ countAfter (countedSays a) count ⌝ }
+    ensures { λ n. ⌜ n ≡ orElse (countedSays a) count ⌝ }
 {
     match a {
         Counted::Count(n) => n,
@@ -53,8 +55,8 @@ fn count_after(a: Counted, count: usize) -> usize
 
 // The fresh pair: both numbers are read, then the fresh table is made.
 fn start(log: &[u8], id: &mut [u32], l: &mut [u32], r: &mut [u32], q: &mut [u32]) -> Started
-    ensures { λ t. ⌜ startedSays t ≡ begunAt (begun (columns (now (id .entry)) (now (l .entry)) (now (r .entry)) (now (q .entry))) (now (log .entry))) ⌝ }
-    ensures { λ t. ⌜ columns (now (id .exit)) (now (l .exit)) (now (r .exit)) (now (q .exit)) ≡ begunTable (begun (columns (now (id .entry)) (now (l .entry)) (now (r .entry)) (now (q .entry))) (now (log .entry))) (columns (now (id .entry)) (now (l .entry)) (now (r .entry)) (now (q .entry))) ⌝ }
+    ensures { λ t. ⌜ startedSays t ≡ begunAt (begun (oldColumns id l r q) (old log)) ⌝ }
+    ensures { λ t. ⌜ newColumns id l r q ≡ begunTable (begun (oldColumns id l r q) (old log)) (oldColumns id l r q) ⌝ }
 {
     match number_at(log, 0) {
         Drawn::Refused(why) => Started::Refused(why),
@@ -78,10 +80,10 @@ fn carry_out(
     q: &mut [u32],
     text: &mut [u8],
 ) -> Reached
-    requires { ⌜ Fitting (columns (now id) (now l) (now r) (now q)) 1 ⌝ }
+    requires { ⌜ Fitting (lentColumns id l r q) 1 ⌝ }
     requires { ⌜ from ≤ length (now log) ⌝ }
     requires { ⌜ lineRoom * (length (now log) - from) + tableRoom ≤ length (now text) ⌝ }
-    ensures { λ t. ⌜ Carried (requestsFrom (length (now (log .entry))) (now (log .entry)) from (columns (now (id .entry)) (now (l .entry)) (now (r .entry)) (now (q .entry))) 1) (now (text .entry)) (columns (now (id .exit)) (now (l .exit)) (now (r .exit)) (now (q .exit))) (now (text .exit)) t ⌝ }
+    ensures { λ t. ⌜ Carried (requestsFrom (length (old log)) (old log) from (oldColumns id l r q) 1) (old text) (newColumns id l r q) (new text) t ⌝ }
 {
     let mut at = from;
     let mut count = 1;
@@ -119,9 +121,9 @@ pub fn grow(
     q: &mut [u32],
     text: &mut [u8],
 ) -> Written
-    ensures { λ t. ⌜ writtenSays t ≡ growAnswer (columns (now (id .entry)) (now (l .entry)) (now (r .entry)) (now (q .entry))) (now (log .entry)) (now (text .entry)) ⌝ }
-    ensures { λ t. ⌜ now (text .exit) ≡ growBuffer (columns (now (id .entry)) (now (l .entry)) (now (r .entry)) (now (q .entry))) (now (log .entry)) (now (text .entry)) ⌝ }
-    ensures { λ t. ⌜ columns (now (id .exit)) (now (l .exit)) (now (r .exit)) (now (q .exit)) ≡ growTable (columns (now (id .entry)) (now (l .entry)) (now (r .entry)) (now (q .entry))) (now (log .entry)) (now (text .entry)) ⌝ }
+    ensures { λ t. ⌜ writtenSays t ≡ growAnswer (oldColumns id l r q) (old log) (old text) ⌝ }
+    ensures { λ t. ⌜ new text ≡ growBuffer (oldColumns id l r q) (old log) (old text) ⌝ }
+    ensures { λ t. ⌜ newColumns id l r q ≡ growTable (oldColumns id l r q) (old log) (old text) ⌝ }
 {
     if text.len() < TABLE_ROOM {
         return Written::Refused(Refusal::BufferShort);

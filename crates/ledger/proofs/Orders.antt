@@ -32,8 +32,8 @@ in-either a b (suc n) m f g h = rw (f (omega arith))
 
 above-itself : (t : Forest) (x : ℕ) → 1 ≤ times x (preL t) → above t x x ≡ true
 above-itself none x h = absurd (omega arith)
-above-itself (tree i q c r) x h =
-    (elim (eqb x i) as (λ b. 1 ≤ pick b 1 0 + times x (preL c ++ preL r) → ((b && (b || has x (preL c))) || (above c x x || above r x x)) ≡ true) [
+above-itself (tree w c r) x h =
+    (elim (eqb x (w .id)) as (λ b. 1 ≤ pick b 1 0 + times x (preL c ++ preL r) → ((b && (b || has x (preL c))) || (above c x x || above r x x)) ≡ true) [
       | true ↦ λ h. refl
       | false ↦ λ h.
           in-either (above c x x) (above r x x) (times x (preL c)) (times x (preL r)) (above-itself c x) (above-itself r x)

@@ -8,7 +8,7 @@ use native.Mathlib.Omega.{arith}
 use native.Mathlib.Decide.{ℕ-discrete}
 use lib.Dec.{eqb}
 use borrow.Author.Tests.{eqb-true, eq-eqb, ne-eqb}
-use Rattle.request.specs.Entries.{Entry, pick, sum, total, times, quotaOf, before}
+use Rattle.request.specs.Entries.{Entry, pick, quota, sum, total, times, quotaOf, before}
 use Rattle.request.proofs.Sums.{sum-append, before-left, before-right, before-past, quota-none}
 use Rattle.refine.proofs.Without.{but, sum-none}
 use Rattle.ledger.specs.Ledger.{replace}
@@ -26,7 +26,7 @@ pub before-other : (x u : ℕ) (new s : List Entry) → x ≢ u → times x new 
 unfolding replace
 before-other x u new [] n z h t = refl
 before-other x u new (e ∷ s) n z h t =
-    (elim (eqb u (e .id)) as (λ b. eqb u (e .id) ≡ b → pick b 1 0 + times u s ≡ 1 → total new ≡ pick b (e .quota) 0 + quotaOf u s
+    (elim (eqb u (e .id)) as (λ b. eqb u (e .id) ≡ b → pick b 1 0 + times u s ≡ 1 → total new ≡ pick b (quota e) 0 + quotaOf u s
     → before x (cond b (new ++ s) (e ∷ replace u new s)) ≡ before x (e ∷ s)) [
       | true ↦ λ p h t.
           omega (
@@ -35,7 +35,7 @@ before-other x u new (e ∷ s) n z h t =
             quota-none u s (omega arith),
             before-past x e s (ne-eqb x (e .id) (λ k. n (k ∙ sym (eqb-true u (e .id) p)))),
           )
-      | false ↦ λ p h t. ap (λ k. pick (eqb x (e .id)) 0 (e .quota + k)) (before-other x u new s n z (omega arith) (omega arith))
+      | false ↦ λ p h t. ap (λ k. pick (eqb x (e .id)) 0 (quota e + k)) (before-other x u new s n z (omega arith) (omega arith))
     ]) refl h t
 
 -- the new groups begin where u did
@@ -45,7 +45,7 @@ unfolding replace
 before-new x u new [] n z h = absurd (omega arith)
 before-new x u new (e ∷ s) n z h =
     (elim (eqb u (e .id)) as (λ b. eqb u (e .id) ≡ b → pick b 1 0 + times u s ≡ 1
-    → before x (cond b (new ++ s) (e ∷ replace u new s)) ≡ pick b 0 (e .quota + before u s) + before x new) [
+    → before x (cond b (new ++ s) (e ∷ replace u new s)) ≡ pick b 0 (quota e + before u s) + before x new) [
       | true ↦ λ p h. omega (arith, before-left x new s z)
       | false ↦ λ p h.
           omega (

@@ -4,7 +4,7 @@ use mathlib.Core.Bool.{Bool, false, _||_}
 use mathlib.Core.List.{List, [], _∷_}
 use lib.Dec.{eqb}
 use lib.ListN.{length}
-use Rattle.rules.specs.Answers.{Answer, answer, refused, then}
+use Rattle.rules.specs.Answers.{Answer, answer, refused, then, orElse}
 use Rattle.request.specs.Request.{Request}
 use Rattle.table.specs.Columns.{Row, Columns, rows, counted, afterwards}
 use Rattle.table.specs.Fresh.{freshRows}
@@ -22,11 +22,6 @@ pub data Call : Type 0 where
 pub data Reply : Type 0 where
   refineSays : Answer ℕ → Reply
   orderSays : Answer Order → Reply
-
--- what a call found, or what was there before where it was refused
-abbrev pub orElse : {A : Type 0} → Answer A → A → A
-orElse (answer new) old = new
-orElse (refused n) old = old
 
 -- The ledger's side. The answer is the number of ids; a refused call changes nothing; order changes nothing
 unfoldable pub ledgerReply : Ledger → Call → Reply

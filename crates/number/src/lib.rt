@@ -6,6 +6,7 @@ ghost use lib.ListN.{length};
 ghost use Rattle.rules.specs.Buffers.{written, after};
 ghost use Rattle.number.specs.Number.{numberAt, groupsAt, above, bytesOf};
 ghost use Rattle.number.specs.Says.{drawnSays, writtenSays};
+ghost use Rattle.rules.specs.Lent.{old, new};
 use rules::Refusal;
 
 // What stands at a position of some bytes.
@@ -27,7 +28,7 @@ const FIFTH: u32 = 268435456;
 
 // The number at a position: 1 where the bytes end before it does, 2 where it isn't in its shortest form or is too great.
 pub fn number_at(bytes: &[u8], at: usize) -> Drawn
-    ensures { λ r. ⌜ drawnSays r ≡ numberAt (now (bytes .entry)) at ⌝ }
+    ensures { λ r. ⌜ drawnSays r ≡ numberAt (old bytes) at ⌝ }
 {
     if bytes.len() <= at {
         return Drawn::Refused(Refusal::NumberCut);
@@ -42,7 +43,7 @@ pub fn number_at(bytes: &[u8], at: usize) -> Drawn
 // The number whose first group is `low`, and whose other bytes stand from a position on.
 fn later_groups(bytes: &[u8], at: usize, low: u32) -> Drawn
     requires { ⌜ low < 128 ⌝ }
-    ensures { λ r. ⌜ drawnSays r ≡ above low 128 (groupsAt 3 false (now (bytes .entry)) at) ⌝ }
+    ensures { λ r. ⌜ drawnSays r ≡ above low 128 (groupsAt 3 false (old bytes) at) ⌝ }
 {
     let mut i = at;
     let mut unit: u32 = 128;
@@ -68,7 +69,7 @@ fn later_groups(bytes: &[u8], at: usize, low: u32) -> Drawn
 // The number whose first four groups are `low`, and whose fifth byte stands at a position.
 fn fifth_group(bytes: &[u8], at: usize, low: u32) -> Drawn
     requires { ⌜ low < 268435456 ⌝ }
-    ensures { λ r. ⌜ drawnSays r ≡ above low 268435456 (groupsAt 0 false (now (bytes .entry)) at) ⌝ }
+    ensures { λ r. ⌜ drawnSays r ≡ above low 268435456 (groupsAt 0 false (old bytes) at) ⌝ }
 {
     if bytes.len() <= at {
         return Drawn::Refused(Refusal::NumberCut);
@@ -104,8 +105,8 @@ pub fn number_length(value: u32) -> usize
 
 // Writes a number's bytes from a position on: 30, and none of them, where the buffer is too short.
 pub fn write_number(buffer: &mut [u8], at: usize, value: u32) -> Written
-    ensures { λ r. ⌜ writtenSays r ≡ written (now (buffer .entry)) at (bytesOf value) ⌝ }
-    ensures { λ r. ⌜ now (buffer .exit) ≡ after (now (buffer .entry)) at (bytesOf value) ⌝ }
+    ensures { λ r. ⌜ writtenSays r ≡ written (old buffer) at (bytesOf value) ⌝ }
+    ensures { λ r. ⌜ new buffer ≡ after (old buffer) at (bytesOf value) ⌝ }
 {
     let count = number_length(value);
     if buffer.len() < at {

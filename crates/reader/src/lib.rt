@@ -2,6 +2,7 @@
 ghost use mathlib.Core.Path.{_≡_};
 ghost use Rattle.number.specs.Number.{numberAt};
 ghost use Rattle.number.specs.Says.{drawnSays};
+ghost use Rattle.rules.specs.Lent.{old};
 use number::Drawn;
 
 // The bytes that a reader refers to, and its place in them.
@@ -38,7 +39,7 @@ impl<'a> Reader<'a> {
 
 // The number at a place of some bytes, drawn by a reader.
 pub fn draw_at(bytes: &[u8], at: usize) -> Drawn
-    ensures { λ d. ⌜ drawnSays d ≡ numberAt (now (bytes .entry)) at ⌝ }
+    ensures { λ d. ⌜ drawnSays d ≡ numberAt (old bytes) at ⌝ }
 {
     Reader::new(bytes, at).draw()
 }

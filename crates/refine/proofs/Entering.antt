@@ -44,7 +44,7 @@ listed-append ids values at (suc m) n =
 stored-listed : (w : Work) (values : List ℕ) (f : Entry → ℕ) (at : ℕ) (t : Forest) → Stored w at t → Values values at (map f (preL t))
     → listed (w .ids) values at (size t) ≡ map (λ e. entry (e .id) (f e)) (preL t)
 stored-listed w values f at none s v = refl
-stored-listed w values f at (tree i q c r) s v =
+stored-listed w values f at (tree i c r) s v =
     let v′ = rw (map-append f (preL c) (preL r)) at (v .1) in
     let n : length (map f (preL c)) ≡ size c = lib.ListN.length-map (preL c) f ∙ sym (size-length c) in
     let one : at + 1 ≡ suc at = add-one at in
@@ -60,13 +60,13 @@ stored-listed w values f at (tree i q c r) s v =
 
 -- the quotas and the ids of the entries
 stored-values : (of : Work → List ℕ) (f : Entry → ℕ) (w : Work)
-    → ((at : ℕ) (i q : ℕ) (c r : Forest) → Stored w at (tree i q c r) → getD (of w) at 0 ≡ f (entry i q))
+    → ((at : ℕ) (i : Entry) (c r : Forest) → Stored w at (tree i c r) → getD (of w) at 0 ≡ f i)
     → (at : ℕ) (t : Forest) → Stored w at t → Values (of w) at (map f (preL t))
 stored-values of f w e at none s = tt
-stored-values of f w e at (tree i q c r) s =
+stored-values of f w e at (tree i c r) s =
     let one : at + 1 ≡ suc at = add-one at in
     let next : at + 1 + size c ≡ suc at + length (map f (preL c)) = let n : length (map f (preL c)) ≡ size c = lib.ListN.length-map (preL c) f ∙ sym (size-length c) in omega arith in (
-      e at i q c r s,
+      e at i c r s,
       rw (map-append f (preL c) (preL r))
           (values-join (of w) (suc at) (map f (preL c)) (map f (preL r)) (rw one at (stored-values of f w e (at + 1) c (s .2))) (rw next at (stored-values of f w e (at + 1 + size c) r (s .3)))),
     )
@@ -76,10 +76,10 @@ stored-values of f w e at (tree i q c r) s =
     values-join values at (v ∷ s) t a b = (a .0, values-join values (suc at) s t (a .1) (rw (add-suc, ← suc-add) at b))
 
 pub quotas-stand : (w : Work) (at : ℕ) (t : Forest) → Stored w at t → Values (w .quotas) at (map (λ e. e .quota) (preL t))
-quotas-stand w at t s = stored-values (λ w. w .quotas) (λ e. e .quota) w (λ at i q c r s. s .0 .quota-is) at t s
+quotas-stand w at t s = stored-values (λ w. w .quotas) (λ e. e .quota) w (λ at i c r s. s .0 .quota-is) at t s
 
 pub ids-stand : (w : Work) (at : ℕ) (t : Forest) → Stored w at t → Values (w .ids) at (map (λ e. e .id) (preL t))
-ids-stand w at t s = stored-values (λ w. w .ids) (λ e. e .id) w (λ at i q c r s. s .0 .id-is) at t s
+ids-stand w at t s = stored-values (λ w. w .ids) (λ e. e .id) w (λ at i c r s. s .0 .id-is) at t s
 
 -- the entries of a request in the work columns, each with a value that stands in a column
 pub told-listed : {w : Work} {u m s : ℕ} {up : Bool} {a : Request} → InWork w u up m s a → (values : List ℕ) (f : Entry → ℕ) → Values values 0 (map f (entries a))
@@ -98,6 +98,6 @@ entries-listed {w} {a = a} told = told-listed told (w .quotas) (λ e. e .quota) 
 -- every quota that stands there is at least 1
 pub stored-positive : (w : Work) (at : ℕ) (t : Forest) → Stored w at t → Positive (preL t)
 stored-positive w at none s = refl
-stored-positive w at (tree i q c r) s =
-    let h : pick (lib.Dec.eqb q 0) 1 0 ≡ 0 = rw (ne-eqb q 0 (λ e. let z = s .1 .0 in omega arith)) in
+stored-positive w at (tree i c r) s =
+    let h : noQuota i ≡ 0 = rw (ne-eqb (i .quota) 0 (λ e. let z = s .1 .0 in omega arith)) in
     omega (arith, h, sum-append noQuota (preL c) (preL r), stored-positive w (at + 1) c (s .2), stored-positive w (at + 1 + size c) r (s .3))

@@ -12,6 +12,7 @@ use Rattle.boxes.specs.declared.Box.{Box}
 use Rattle.boxes.specs.declared.Cut.{Cut}
 use Rattle.boxes.specs.declared.Cut.the-variants.{Parts, None}
 use Rattle.boxes.proofs.Ranges.{parts}
+use Rattle.request.specs.Entries.{Entry, quota}
 use Rattle.request.specs.Forest.{Forest, none, tree}
 use Rattle.request.specs.Numbering.{whole, size, lefts, rights, upL, upR, downL, downR}
 use Rattle.refine.specs.Corners.{cornerOf, innerOf}
@@ -22,18 +23,18 @@ abbrev pub childOf : ℕ → ℕ → ℕ → ℕ → Box
 childOf l r b s = boxOf l (r + (b - s)) s
 
 -- the numbers of a forest, by the boxes of its first tree
-module _ (i q : ℕ) (c f : Forest) (l r b : ℕ) (fits : q + (whole c + whole f) ≡ b) where
-  pub lefts-tree : (up : Bool) → lefts (directionBy up) l (tree i q c f)
+module _ (e : Entry) (q : ℕ) (own : quota e ≡ q) (c f : Forest) (l r b : ℕ) (fits : q + (whole c + whole f) ≡ b) where
+  pub lefts-tree : (up : Bool) → lefts (directionBy up) l (tree e c f)
       ≡ cornerOf up (childOf l r b (q + whole c)) q .l .0 ∷ lefts (directionBy up) (innerOf up (childOf l r b (q + whole c)) q .l .0) c ++ lefts (directionBy up) (l + (q + whole c)) f
-  lefts-tree true = let e : l + q + whole c ≡ l + (q + whole c) = omega arith in ap (λ n. l ∷ upL (l + q) c ++ upL n f) e
-  lefts-tree false =
+  lefts-tree true = rw own (let e : l + q + whole c ≡ l + (q + whole c) = omega arith in ap (λ n. l ∷ upL (l + q) c ++ upL n f) e)
+  lefts-tree false = rw own (
       let e : l + whole c + q ≡ l + (q + whole c) = omega arith in
       let g : l + whole c ≡ l + (q + whole c - q) = omega arith in
-      ap₂ (λ m n. m ∷ downL l c ++ downL n f) g e
+      ap₂ (λ m n. m ∷ downL l c ++ downL n f) g e)
 
-  pub rights-tree : (up : Bool) → rights (directionBy up) r (tree i q c f)
+  pub rights-tree : (up : Bool) → rights (directionBy up) r (tree e c f)
       ≡ cornerOf up (childOf l r b (q + whole c)) q .r .0 ∷ rights (directionBy up) (innerOf up (childOf l r b (q + whole c)) q .r .0) c ++ rights (directionBy up) r f
-  rights-tree true = let e : r + whole f ≡ r + (b - (q + whole c)) = omega arith in ap (λ n. n ∷ upR (n + q) c ++ upR r f) e
+  rights-tree true = rw own (let e : r + whole f ≡ r + (b - (q + whole c)) = omega arith in ap (λ n. n ∷ upR (n + q) c ++ upR r f) e)
   rights-tree false =
       let e : r + whole f ≡ r + (b - (q + whole c)) = omega arith in
       let g : whole c ≡ q + whole c - q = omega arith in
@@ -42,19 +43,19 @@ module _ (i q : ℕ) (c f : Forest) (l r b : ℕ) (fits : q + (whole c + whole f
 -- as many numbers as entries
 upL-length : (b : ℕ) (t : Forest) → length (upL b t) ≡ size t
 upL-length b none = refl
-upL-length b (tree i q c f) = ap suc (length-append (upL (b + q) c) _ ∙ ap₂ _+_ (upL-length _ c) (upL-length _ f))
+upL-length b (tree i c f) = ap suc (length-append (upL (b + quota i) c) _ ∙ ap₂ _+_ (upL-length _ c) (upL-length _ f))
 
 upR-length : (b : ℕ) (t : Forest) → length (upR b t) ≡ size t
 upR-length b none = refl
-upR-length b (tree i q c f) = ap suc (length-append (upR (b + whole f + q) c) _ ∙ ap₂ _+_ (upR-length _ c) (upR-length _ f))
+upR-length b (tree i c f) = ap suc (length-append (upR (b + whole f + quota i) c) _ ∙ ap₂ _+_ (upR-length _ c) (upR-length _ f))
 
 downL-length : (b : ℕ) (t : Forest) → length (downL b t) ≡ size t
 downL-length b none = refl
-downL-length b (tree i q c f) = ap suc (length-append (downL b c) _ ∙ ap₂ _+_ (downL-length _ c) (downL-length _ f))
+downL-length b (tree i c f) = ap suc (length-append (downL b c) _ ∙ ap₂ _+_ (downL-length _ c) (downL-length _ f))
 
 downR-length : (b : ℕ) (t : Forest) → length (downR b t) ≡ size t
 downR-length b none = refl
-downR-length b (tree i q c f) = ap suc (length-append (downR (b + whole f) c) _ ∙ ap₂ _+_ (downR-length _ c) (downR-length _ f))
+downR-length b (tree i c f) = ap suc (length-append (downR (b + whole f) c) _ ∙ ap₂ _+_ (downR-length _ c) (downR-length _ f))
 
 pub lefts-length : (up : Bool) (b : ℕ) (t : Forest) → length (lefts (directionBy up) b t) ≡ size t
 lefts-length true b t = upL-length b t
@@ -66,7 +67,7 @@ rights-length false b t = downR-length b t
 
 size-zero : (t : Forest) → size t ≡ 0 → t ≡ none
 size-zero none e = refl
-size-zero (tree i q c f) e = absurd (omega arith)
+size-zero (tree i c f) e = absurd (omega arith)
 
 -- from entry p on, the trees that are left are to be numbered in a box (bl, br, b); ls and rs are what the whole is to be
 pub record Numbers (w : Work) (up : Bool) (from to : ℕ) (ls rs : List ℕ) (p bl br b : ℕ) (l r : List ℕ) : Type 0 where
@@ -86,7 +87,8 @@ pub record Numbers (w : Work) (up : Bool) (from to : ℕ) (ls rs : List ℕ) (p 
 pub record Here (w : Work) (up : Bool) (from to : ℕ) (ls rs : List ℕ) (p bl br b : ℕ) (l r : List ℕ) : Type 0 where
   pub children : Forest
   pub others : Forest
-  pub entry : ℕ
+  pub root : Entry
+  pub own : quota root ≡ getD (w .quotas) p 0
   pub end-is : getD (w .ends) p 0 ≡ p + 1 + size children
   pub sum-is : getD (w .sums) p 0 ≡ getD (w .quotas) p 0 + whole children
   pub some : 1 ≤ getD (w .quotas) p 0
@@ -100,20 +102,21 @@ pub record Here (w : Work) (up : Bool) (from to : ℕ) (ls rs : List ℕ) (p bl 
   pub behind : from ≤ p
   pub l-length : length l ≡ to - from
   pub r-length : length r ≡ to - from
-  pub l-whole : take (p - from) l ++ lefts (directionBy up) bl (tree entry (getD (w .quotas) p 0) children others) ≡ ls
-  pub r-whole : take (p - from) r ++ rights (directionBy up) br (tree entry (getD (w .quotas) p 0) children others) ≡ rs
+  pub l-whole : take (p - from) l ++ lefts (directionBy up) bl (tree root children others) ≡ ls
+  pub r-whole : take (p - from) r ++ rights (directionBy up) br (tree root children others) ≡ rs
 
 module _ {w : Work} {up : Bool} {from to : ℕ} {ls rs : List ℕ} {p bl br b : ℕ} {l r : List ℕ} where
   open-tree : (t : Forest) → Stored w p t → to ≡ p + size t → whole t ≡ b → bl + b ≤ 4294967296 → br + b ≤ 4294967296 → from ≤ p → length l ≡ to - from
       → length r ≡ to - from → take (p - from) l ++ lefts (directionBy up) bl t ≡ ls → take (p - from) r ++ rights (directionBy up) br t ≡ rs → p < to
       → Here w up from to ls rs p bl br b l r
   open-tree none s e f le re bh ll rl lw rw′ h = absurd (omega arith)
-  open-tree (tree i q c g) s e f le re bh ll rl lw rw′ h =
+  open-tree (tree i c g) s e f le re bh ll rl lw rw′ h =
       let own = s .0 .quota-is in
       record {
         children = c;
         others = g;
-        entry = i;
+        root = i;
+        own = sym own;
         end-is = s .0 .end-is;
         sum-is = s .0 .sum-is ∙ ap (λ n. n + whole c) (sym own);
         some = rw own (s .1 .0);
@@ -127,8 +130,8 @@ module _ {w : Work} {up : Bool} {from to : ℕ} {ls rs : List ℕ} {p bl br b : 
         behind = bh;
         l-length = ll;
         r-length = rl;
-        l-whole = rw own lw;
-        r-whole = rw own rw′;
+        l-whole = lw;
+        r-whole = rw′;
       }
 
   pub here : Numbers w up from to ls rs p bl br b l r → p < to → Here w up from to ls rs p bl br b l r
@@ -259,14 +262,14 @@ module _ {w : Work} {up : Bool} {from to : ℕ} {ls rs : List ℕ} {p bl br b : 
             (ap (λ m. take m (take k (set l i (cornerOf up child (getD (w .quotas) p 0) .l .0)) ++ (ys ++ drop (e - k) (drop k (set l i (cornerOf up child (getD (w .quotas) p 0) .l .0)))))) (sym ee)
             ∙ filled l ys i k e _ ek (omega arith) (omega arith) (omega arith))
             ∙ append-assoc (take i l) _ _
-            ∙ rw (ey, ec, ei) (ap (λ s. take (p - from) l ++ s) (sym (lefts-tree (h .entry) (getD (w .quotas) p 0) (h .children) (h .others) bl br b f up)))
+            ∙ rw (ey, ec, ei) (ap (λ s. take (p - from) l ++ s) (sym (lefts-tree (h .root) (getD (w .quotas) p 0) (h .own) (h .children) (h .others) bl br b f up)))
             ∙ h .l-whole;
         r-whole =
             ap (λ s. s ++ rights (directionBy up) br (h .others))
             (ap (λ m. take m (take k (set r i (cornerOf up child (getD (w .quotas) p 0) .r .0)) ++ (zs ++ drop (e - k) (drop k (set r i (cornerOf up child (getD (w .quotas) p 0) .r .0)))))) (sym ee)
             ∙ filled r zs i k e _ ek (omega arith) (omega arith) (omega arith))
             ∙ append-assoc (take i r) _ _
-            ∙ rw (ez, ec, ei) (ap (λ s. take (p - from) r ++ s) (sym (rights-tree (h .entry) (getD (w .quotas) p 0) (h .children) (h .others) bl br b f up)))
+            ∙ rw (ez, ec, ei) (ap (λ s. take (p - from) r ++ s) (sym (rights-tree (h .root) (getD (w .quotas) p 0) (h .own) (h .children) (h .others) bl br b f up)))
             ∙ h .r-whole;
       }
 

@@ -12,6 +12,7 @@ use borrow.Author.Tests.{lt-ltb, le-ltb, eq-eqb, ne-eqb}
 use Rattle.rules.specs.Answers.{Answer, answer, refused, then}
 use Rattle.rules.proofs.Answers.{same-answer, never-refused, then-refused}
 use Rattle.number.specs.Number.{found, numberAt}
+use Rattle.request.specs.Entries.{Entry, entry}
 use Rattle.request.specs.Forest.{Forest, none, tree, Direction, upright, inverted}
 use Rattle.request.specs.Numbering.{whole, size}
 use Rattle.request.specs.Request.{Request}
@@ -97,7 +98,7 @@ module _ (bytes : List ℕ) where
   pub trees-more : (room n at used : ℕ) → 0 < n → used < 256 → (room ≡ 0 → ⊥) → {e : EntryRead} → entryAt bytes at ≡ answer e → {c : TreesRead}
       → treesAt (room - 1) (e .children) bytes (e .next) (used + 1) ≡ answer c
       → treesAt room n bytes at used
-      ≡ then (treesAt room (n - 1) bytes (c .next) (c .used)) (λ r. answer (record { trees = tree (e .id) (e .quota) (c .trees) (r .trees); next = r .next; used = r .used }))
+      ≡ then (treesAt room (n - 1) bytes (c .next) (c .used)) (λ r. answer (record { trees = tree (entry (e .id) (e .quota)) (c .trees) (r .trees); next = r .next; used = r .used }))
   unfolding treesAt treesBy
   trees-more room zero at used h l z e b = absurd (omega arith)
   trees-more zero (suc n) at used h l z e b = absurd (z refl)
@@ -114,23 +115,23 @@ used-size room n bytes at used {t} e = let r = read-trees room n bytes at used e
 
 abbrev pub append : Forest → Forest → Forest
 append none f = f
-append (tree i q c r) f = tree i q c (append r f)
+append (tree i c r) f = tree i c (append r f)
 
 pub append-none : (t : Forest) → append t none ≡ t
 append-none none = refl
-append-none (tree i q c r) = ap (tree i q c) (append-none r)
+append-none (tree i c r) = ap (tree i c) (append-none r)
 
 append-append : (a b c : Forest) → append (append a b) c ≡ append a (append b c)
 append-append none b c = refl
-append-append (tree i q d r) b c = ap (tree i q d) (append-append r b c)
+append-append (tree i d r) b c = ap (tree i d) (append-append r b c)
 
 size-append : (a b : Forest) → size (append a b) ≡ size a + size b
 size-append none b = omega arith
-size-append (tree i q c r) b = omega (arith, size-append r b)
+size-append (tree i c r) b = omega (arith, size-append r b)
 
 whole-append : (a b : Forest) → whole (append a b) ≡ whole a + whole b
 whole-append none b = omega arith
-whole-append (tree i q c r) b = omega (arith, whole-append r b)
+whole-append (tree i c r) b = omega (arith, whole-append r b)
 
 -- ## Trees in the work columns
 
@@ -139,12 +140,12 @@ stored-at w t e s = subst (λ (k : ℕ). Stored w k t) e s
 
 stored-append : (w : Work) (at : ℕ) (a b : Forest) → Stored w at a → Stored w (at + size a) b → Stored w at (append a b)
 stored-append w at none b s t = stored-at w b (omega arith) t
-stored-append w at (tree i q c r) b s t =
+stored-append w at (tree i c r) b s t =
     (s .0, s .1, s .2, stored-append w (at + 1 + size c) r b (s .3) (stored-at w b (omega arith) t))
 
 pub whole-bound : (w : Work) (at : ℕ) (t : Forest) → Stored w at t → whole t ≤ size t * 4294967295
 whole-bound w at none s = omega arith
-whole-bound w at (tree i q c r) s = omega (arith, whole-bound w (at + 1) c (s .2), whole-bound w (at + 1 + size c) r (s .3), s .1 .1)
+whole-bound w at (tree i c r) s = omega (arith, whole-bound w (at + 1) c (s .2), whole-bound w (at + 1 + size c) r (s .3), s .1 .1)
 
 -- two work columns agree from an index up to another
 pub record Agree (from to : ℕ) (w v : Work) : Type 0 where
@@ -163,7 +164,7 @@ agree-part g a b h k = record {
 
 pub stored-agree : (w v : Work) (at : ℕ) (t : Forest) → Agree at (at + size t) w v → Stored w at t → Stored v at t
 stored-agree w v at none g s = tt
-stored-agree w v at (tree i q c r) g s = (
+stored-agree w v at (tree i c r) g s = (
   record {
     id-is = g .at-ids at (omega arith) (omega arith) ∙ s .0 .id-is;
     quota-is = g .at-quotas at (omega arith) (omega arith) ∙ s .0 .quota-is;
@@ -185,11 +186,11 @@ onto-none : (a : Answer TreesRead) → a ≡ then a (onto none)
 onto-none (answer t) = refl
 onto-none (refused n) = refl
 
-onto-more : (done : Forest) (i q : ℕ) (c : Forest) (a : Answer TreesRead)
-    → then (then a (λ r. answer (record { trees = tree i q c (r .trees); next = r .next; used = r .used }))) (onto done) ≡ then a (onto (append done (tree i q c none)))
-onto-more done i q c (answer r) =
-    ap (λ (t : Forest). answer (record { trees = t; next = r .next; used = r .used })) (sym (append-append done (tree i q c none) (r .trees)))
-onto-more done i q c (refused n) = refl
+onto-more : (done : Forest) (i : Entry) (c : Forest) (a : Answer TreesRead)
+    → then (then a (λ r. answer (record { trees = tree i c (r .trees); next = r .next; used = r .used }))) (onto done) ≡ then a (onto (append done (tree i c none)))
+onto-more done i c (answer r) =
+    ap (λ (t : Forest). answer (record { trees = t; next = r .next; used = r .used })) (sym (append-append done (tree i c none) (r .trees)))
+onto-more done i c (refused n) = refl
 
 -- after some trees: those that are left, from here, make the whole, and those that are done stand in the work columns
 pub record Reading (bytes : List ℕ) (at trees room used : ℕ) (w v : Work) (place next sum left : ℕ) : Type 0 where
@@ -358,21 +359,21 @@ again bytes at trees room used w {ids} {quotas} {ends} {sums} {ids2} {quotas2} {
     let one : EntryIn v next id quota (next + 1 + size (c .trees)) (quota + whole (c .trees)) =
     rw (← i .counted, i .at-inner) (entry-in next id quota end (quota + inner) (i .kept) (r .roomy) y l) in
     let s = stored-agree (work ids2 quotas2 ends2 sums2) v (next + 1) (c .trees) (entry-above ids2 quotas2 ends2 sums2 next end (quota + inner) (next + 1 + size (c .trees))) (i .stands) in
-    let t : Stored v next (tree id quota (c .trees) none) = (one, (entry-some bytes place (sym e) .1, small), s, tt) in
+    let t : Stored v next (tree (entry id quota) (c .trees) none) = (one, (entry-some bytes place (sym e) .1, small), s, tt) in
     record {
-      done = append (r .done) (tree id quota (c .trees) none);
+      done = append (r .done) (tree (entry id quota) (c .trees) none);
       ahead =
           r .ahead
           ∙ ap (λ (a : Answer TreesRead). then a (onto (r .done))) (trees-more bytes room left place next some l deep (sym e) (i .read))
-          ∙ onto-more (r .done) id quota (c .trees) (treesAt room (left - 1) bytes (c .next) (c .used))
+          ∙ onto-more (r .done) (entry id quota) (c .trees) (treesAt room (left - 1) bytes (c .next) (c .used))
           ∙ rw (i .at-p, i .at-end);
       stands =
-          stored-append v used (r .done) (tree id quota (c .trees) none)
+          stored-append v used (r .done) (tree (entry id quota) (c .trees) none)
           (stored-agree (work ids quotas ends sums) v used (r .done) (agree-below b used (used + size (r .done)) (omega (arith, r .counted))) (r .stands))
-          (stored-at v (tree id quota (c .trees) none) (r .counted) t);
-      counted = omega (arith, i .counted, r .counted, size-append (r .done) (tree id quota (c .trees) none));
+          (stored-at v (tree (entry id quota) (c .trees) none) (r .counted) t);
+      counted = omega (arith, i .counted, r .counted, size-append (r .done) (tree (entry id quota) (c .trees) none));
       most = i .most;
-      summed = omega (arith, i .at-inner, r .summed, whole-append (r .done) (tree id quota (c .trees) none));
+      summed = omega (arith, i .at-inner, r .summed, whole-append (r .done) (tree (entry id quota) (c .trees) none));
       kept = same-onward (r .kept) b (omega (arith, r .counted));
       roomy = roomy-set next end (quota + inner) y;
     }

@@ -6,7 +6,7 @@ use Prim.Native.Nat.{ℕ, zero, suc, _+_, _≤_, _<_}
 use lib.ListN.{length, getD}
 use Rattle.rules.specs.Answers.{Answer, answer, refused, then}
 use Rattle.rules.specs.Limits.{greatest, mostEntries}
-use Rattle.request.specs.Entries.{Entry, entry}
+use Rattle.request.specs.Entries.{Entry, entry, quota}
 use Rattle.request.specs.Forest.{Forest, none, tree, Direction, upright, inverted}
 use Rattle.request.specs.Numbering.{whole, size}
 use Rattle.request.specs.Reading.{TreesRead}
@@ -31,8 +31,8 @@ pub record EntryIn (w : Work) (at id quota end sum : ℕ) : Type 0 where
 -- the work columns hold a forest's entries from an index on; each quota is at least 1 and a 32-bit number
 abbrev pub Stored : Work → ℕ → Forest → Type 0
 Stored w at none = Unit {0}
-Stored w at (tree i q c r) =
-    EntryIn w at i q (at + 1 + size c) (q + whole c) × ((1 ≤ q) × (q ≤ greatest)) × Stored w (at + 1) c × Stored w (at + 1 + size c) r
+Stored w at (tree e c r) =
+    EntryIn w at (e .id) (quota e) (at + 1 + size c) (quota e + whole c) × ((1 ≤ quota e) × (quota e ≤ greatest)) × Stored w (at + 1) c × Stored w (at + 1 + size c) r
 
 -- every work column has room for the most entries
 pub record Roomy (w : Work) : Type 0 where

@@ -9,6 +9,7 @@ ghost use Rattle.request.specs.Forest.{Forest};
 ghost use Rattle.request.specs.Numbering.{lefts, rights};
 ghost use Rattle.refine.specs.Work.{work, Boxed, directionBy};
 ghost use Rattle.refine.specs.Corners.{cornerOf, innerOf};
+ghost use Rattle.rules.specs.Lent.{old, new};
 use boxes::Box;
 use boxes::Cut;
 use boxes::LValue;
@@ -73,7 +74,7 @@ pub(crate) fn number_trees(
 )
     requires { ⌜ (to ≤ length (now quotas)) × ((to ≤ length (now ends)) × (to ≤ length (now sums))) ⌝ }
     requires { ⌜ ((t : Forest) × (ids : List ℕ) × Boxed (work ids (now quotas) (now ends) (now sums)) from to (area .l .0) (area .r .0) (area .quota) (now l) (now r) t) ⌝ }
-    ensures { λ _. ⌜ ((t : Forest) (ids : List ℕ) → Boxed (work ids (now (quotas .entry)) (now (ends .entry)) (now (sums .entry))) from to (area .l .0) (area .r .0) (area .quota) (now (l .entry)) (now (r .entry)) t → (now (l .exit) ≡ lefts (directionBy upright) (area .l .0) t) × (now (r .exit) ≡ rights (directionBy upright) (area .r .0) t)) ⌝ }
+    ensures { λ _. ⌜ ((t : Forest) (ids : List ℕ) → Boxed (work ids (old quotas) (old ends) (old sums)) from to (area .l .0) (area .r .0) (area .quota) (old l) (old r) t → (new l ≡ lefts (directionBy upright) (area .l .0) t) × (new r ≡ rights (directionBy upright) (area .r .0) t)) ⌝ }
 {
     let mut p = from;
     let mut rest = area;

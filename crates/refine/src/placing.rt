@@ -6,11 +6,12 @@ ghost use lib.ListN.{length};
 ghost use Rattle.request.specs.Entries.{times};
 ghost use Rattle.refine.specs.Placing.{placed, PlaceIn};
 ghost use Rattle.refine.specs.Work.{listed};
+ghost use Rattle.rules.specs.Lent.{old, new};
 
 // Where x stands first among the first n of a column, or n.
 pub(crate) fn place_of(column: &[u32], n: usize, x: u32) -> usize
     requires { ⌜ n ≤ length (now column) ⌝ }
-    ensures { λ i. ⌜ PlaceIn (now (column .entry)) n x i ⌝ }
+    ensures { λ i. ⌜ PlaceIn (old column) n x i ⌝ }
 {
     let mut i = 0;
     while i < n {
@@ -25,7 +26,7 @@ pub(crate) fn place_of(column: &[u32], n: usize, x: u32) -> usize
 // How often x stands among the first n of a column.
 pub(crate) fn times(column: &[u32], n: usize, x: u32) -> usize
     requires { ⌜ n ≤ length (now column) ⌝ }
-    ensures { λ k. ⌜ ((values : List ℕ) → k ≡ times x (listed (now (column .entry)) values 0 n)) ⌝ }
+    ensures { λ k. ⌜ ((values : List ℕ) → k ≡ times x (listed (old column) values 0 n)) ⌝ }
 {
     let mut k = 0;
     let mut i = 0;
@@ -50,7 +51,7 @@ pub(crate) fn place(
 )
     requires { ⌜ (entries ≤ length (now ids)) × (entries ≤ length (now values)) ⌝ }
     requires { ⌜ (own < next) × (next + entries ≤ length (now column) + times exploded (listed (now ids) (now values) 0 entries)) ⌝ }
-    ensures { λ _. ⌜ now (column .exit) ≡ placed exploded own next (listed (now (ids .entry)) (now (values .entry)) 0 entries) (now (column .entry)) ⌝ }
+    ensures { λ _. ⌜ new column ≡ placed exploded own next (listed (old ids) (old values) 0 entries) (old column) ⌝ }
 {
     let mut row = next;
     let mut i = 0;

@@ -6,6 +6,7 @@ ghost use Rattle.number.specs.Says.{drawnSays};
 ghost use Rattle.request.specs.Reading.{positiveAt, entryAt, treesAt, requestOf};
 ghost use Rattle.refine.specs.Says.{entrySays, walkSays, requestSays};
 ghost use Rattle.refine.specs.Work.{work, Roomy, Walked, reached, DrawnIn, summary};
+ghost use Rattle.rules.specs.Lent.{old, new};
 use crate::EntryDrawn;
 use crate::RequestDrawn;
 use crate::Walk;
@@ -16,7 +17,7 @@ use rules::Refusal;
 
 // A number that may not be 0.
 fn positive_at(bytes: &[u8], at: usize) -> Drawn
-    ensures { λ t. ⌜ drawnSays t ≡ positiveAt (now (bytes .entry)) at ⌝ }
+    ensures { λ t. ⌜ drawnSays t ≡ positiveAt (old bytes) at ⌝ }
 {
     match reader::draw_at(bytes, at) {
         Drawn::Refused(why) => Drawn::Refused(why),
@@ -31,7 +32,7 @@ fn positive_at(bytes: &[u8], at: usize) -> Drawn
 
 // The entry at a position.
 fn entry_at(bytes: &[u8], at: usize) -> EntryDrawn
-    ensures { λ t. ⌜ entrySays t ≡ entryAt (now (bytes .entry)) at ⌝ }
+    ensures { λ t. ⌜ entrySays t ≡ entryAt (old bytes) at ⌝ }
 {
     match positive_at(bytes, at) {
         Drawn::Refused(why) => EntryDrawn::Refused(why),
@@ -60,8 +61,8 @@ pub(crate) fn read_trees(
 ) -> Walk
     requires { ⌜ Roomy (work (now ids) (now quotas) (now ends) (now sums)) ⌝ }
     requires { ⌜ used ≤ mostEntries ⌝ }
-    ensures { λ t. ⌜ walkSays t ≡ reached (treesAt room trees (now (bytes .entry)) at used) ⌝ }
-    ensures { λ t. ⌜ Walked (treesAt room trees (now (bytes .entry)) at used) used (work (now (ids .entry)) (now (quotas .entry)) (now (ends .entry)) (now (sums .entry))) (work (now (ids .exit)) (now (quotas .exit)) (now (ends .exit)) (now (sums .exit))) ⌝ }
+    ensures { λ t. ⌜ walkSays t ≡ reached (treesAt room trees (old bytes) at used) ⌝ }
+    ensures { λ t. ⌜ Walked (treesAt room trees (old bytes) at used) used (work (old ids) (old quotas) (old ends) (old sums)) (work (new ids) (new quotas) (new ends) (new sums)) ⌝ }
 {
     let mut place = at;
     let mut next = used;
@@ -120,8 +121,8 @@ pub(crate) fn read_request(
     sums: &mut [u64],
 ) -> RequestDrawn
     requires { ⌜ Roomy (work (now ids) (now quotas) (now ends) (now sums)) ⌝ }
-    ensures { λ t. ⌜ requestSays t ≡ summary (requestOf (now (bytes .entry))) ⌝ }
-    ensures { λ t. ⌜ DrawnIn (requestOf (now (bytes .entry))) (work (now (ids .exit)) (now (quotas .exit)) (now (ends .exit)) (now (sums .exit))) ⌝ }
+    ensures { λ t. ⌜ requestSays t ≡ summary (requestOf (old bytes)) ⌝ }
+    ensures { λ t. ⌜ DrawnIn (requestOf (old bytes)) (work (new ids) (new quotas) (new ends) (new sums)) ⌝ }
 {
     match positive_at(bytes, 0) {
         Drawn::Refused(why) => RequestDrawn::Refused(why),

@@ -10,13 +10,15 @@ ghost use Rattle.rules.specs.Limits.{mostEntries};
 ghost use Rattle.request.specs.Entries.{times as timesOf};
 ghost use Rattle.request.specs.Entries.{has, someEntry};
 ghost use Rattle.request.specs.Request.{Request};
-ghost use Rattle.table.specs.Columns.{columns, rows, counted, afterwards, put};
+ghost use Rattle.table.specs.Columns.{rows, counted, afterwards, put};
 ghost use Rattle.table.specs.Check.{checked};
 ghost use Rattle.table.specs.Says.{countedSays};
 ghost use Rattle.request.specs.Acceptance.{accepted};
 ghost use Rattle.refine.specs.Placing.{PlaceIn};
 ghost use Rattle.refine.specs.Refine.{groupsOf, refineRows, explodedRows, refined};
 ghost use Rattle.refine.specs.Work.{work, listed, InWork};
+ghost use Rattle.rules.specs.Lent.{old};
+ghost use Rattle.table.specs.Lent.{oldColumns, newColumns, lentColumns};
 use crate::RequestDrawn;
 use crate::numbering::number_trees;
 use crate::placing::place;
@@ -33,7 +35,7 @@ use table::check_columns;
 // 22, for one entry's id: it isn't the exploded one, and it is in the table or comes twice.
 fn id_taken(id: &[u32], count: usize, ids: &[u32], entries: usize, exploded: u32, x: u32) -> bool
     requires { ⌜ (count ≤ length (now id)) × (entries ≤ length (now ids)) ⌝ }
-    ensures { λ t. ⌜ ((groups values : List ℕ) → t ≡ (not (eqb x exploded) && (has x (listed (now (id .entry)) groups 0 count) || leb 2 (timesOf x (listed (now (ids .entry)) values 0 entries))))) ⌝ }
+    ensures { λ t. ⌜ ((groups values : List ℕ) → t ≡ (not (eqb x exploded) && (has x (listed (old id) groups 0 count) || leb 2 (timesOf x (listed (old ids) values 0 entries))))) ⌝ }
 {
     if x == exploded {
         return false;
@@ -47,7 +49,7 @@ fn id_taken(id: &[u32], count: usize, ids: &[u32], entries: usize, exploded: u32
 // 22: another entry's id is in the table or comes twice.
 fn some_id_taken(id: &[u32], count: usize, ids: &[u32], entries: usize, exploded: u32) -> bool
     requires { ⌜ (count ≤ length (now id)) × (entries ≤ length (now ids)) ⌝ }
-    ensures { λ t. ⌜ ((groups values : List ℕ) → t ≡ someEntry (λ e. not (eqb (e .id) exploded) && (has (e .id) (listed (now (id .entry)) groups 0 count) || leb 2 (timesOf (e .id) (listed (now (ids .entry)) values 0 entries)))) (listed (now (ids .entry)) values 0 entries)) ⌝ }
+    ensures { λ t. ⌜ ((groups values : List ℕ) → t ≡ someEntry (λ e. not (eqb (e .id) exploded) && (has (e .id) (listed (old id) groups 0 count) || leb 2 (timesOf (e .id) (listed (old ids) values 0 entries)))) (listed (old ids) values 0 entries)) ⌝ }
 {
     let mut i = 0;
     while i < entries {
@@ -78,10 +80,10 @@ fn write_entries(
     new_r: &mut [u32],
 )
     requires { ⌜ (length (now «new_l») ≡ mostEntries) × (length (now «new_r») ≡ mostEntries) ⌝ }
-    requires { ⌜ checked (columns (now id) (now l) (now r) (now q)) count ≡ answer (rows (columns (now id) (now l) (now r) (now q)) count) ⌝ }
+    requires { ⌜ checked (lentColumns id l r q) count ≡ answer (rows (lentColumns id l r q) count) ⌝ }
     requires { ⌜ PlaceIn (now id) count exploded own × (own < count) ⌝ }
-    requires { ⌜ ((a : Request) × (s : ℕ) × InWork (work (now ids) (now quotas) (now ends) (now sums)) exploded upright entries s a × (accepted (length (now id)) (groupsOf (rows (columns (now id) (now l) (now r) (now q)) count)) a ≡ answer a)) ⌝ }
-    ensures { λ _. ⌜ ((a : Request) (s : ℕ) → InWork (work (now (ids .entry)) (now (quotas .entry)) (now (ends .entry)) (now (sums .entry))) exploded upright entries s a → accepted (length (now (id .entry))) (groupsOf (rows (columns (now (id .entry)) (now (l .entry)) (now (r .entry)) (now (q .entry))) count)) a ≡ answer a → columns (now (id .exit)) (now (l .exit)) (now (r .exit)) (now (q .exit)) ≡ put (refineRows a (rows (columns (now (id .entry)) (now (l .entry)) (now (r .entry)) (now (q .entry))) count)) (columns (now (id .entry)) (now (l .entry)) (now (r .entry)) (now (q .entry)))) ⌝ }
+    requires { ⌜ ((a : Request) × (s : ℕ) × InWork (work (now ids) (now quotas) (now ends) (now sums)) exploded upright entries s a × (accepted (length (now id)) (groupsOf (rows (lentColumns id l r q) count)) a ≡ answer a)) ⌝ }
+    ensures { λ _. ⌜ ((a : Request) (s : ℕ) → InWork (work (old ids) (old quotas) (old ends) (old sums)) exploded upright entries s a → accepted (length (old id)) (groupsOf (rows (oldColumns id l r q) count)) a ≡ answer a → newColumns id l r q ≡ put (refineRows a (rows (oldColumns id l r q) count)) (oldColumns id l r q)) ⌝ }
 {
     let area = Box::new(l[own], r[own], q[own]);
     number_trees(
@@ -120,9 +122,9 @@ fn explode(
     new_r: &mut [u32],
 ) -> Counted
     requires { ⌜ (length (now «new_l») ≡ mostEntries) × (length (now «new_r») ≡ mostEntries) ⌝ }
-    requires { ⌜ checked (columns (now id) (now l) (now r) (now q)) count ≡ answer (rows (columns (now id) (now l) (now r) (now q)) count) ⌝ }
+    requires { ⌜ checked (lentColumns id l r q) count ≡ answer (rows (lentColumns id l r q) count) ⌝ }
     requires { ⌜ ((a : Request) × InWork (work (now ids) (now quotas) (now ends) (now sums)) exploded upright entries quota a) ⌝ }
-    ensures { λ t. ⌜ ((a : Request) → InWork (work (now (ids .entry)) (now (quotas .entry)) (now (ends .entry)) (now (sums .entry))) exploded upright entries quota a → (countedSays t ≡ counted (explodedRows (length (now (id .entry))) (rows (columns (now (id .entry)) (now (l .entry)) (now (r .entry)) (now (q .entry))) count) a)) × (columns (now (id .exit)) (now (l .exit)) (now (r .exit)) (now (q .exit)) ≡ afterwards (explodedRows (length (now (id .entry))) (rows (columns (now (id .entry)) (now (l .entry)) (now (r .entry)) (now (q .entry))) count) a) (columns (now (id .entry)) (now (l .entry)) (now (r .entry)) (now (q .entry))))) ⌝ }
+    ensures { λ t. ⌜ ((a : Request) → InWork (work (old ids) (old quotas) (old ends) (old sums)) exploded upright entries quota a → (countedSays t ≡ counted (explodedRows (length (old id)) (rows (oldColumns id l r q) count) a)) × (newColumns id l r q ≡ afterwards (explodedRows (length (old id)) (rows (oldColumns id l r q) count) a) (oldColumns id l r q))) ⌝ }
 {
     let own = place_of(&*id, count, exploded);
     if own == count {
@@ -188,9 +190,9 @@ fn refine_sound(
     count: usize,
     request: &[u8],
 ) -> Counted
-    requires { ⌜ checked (columns (now id) (now l) (now r) (now q)) count ≡ answer (rows (columns (now id) (now l) (now r) (now q)) count) ⌝ }
-    ensures { λ t. ⌜ countedSays t ≡ counted (refined (columns (now (id .entry)) (now (l .entry)) (now (r .entry)) (now (q .entry))) count (now (request .entry))) ⌝ }
-    ensures { λ t. ⌜ columns (now (id .exit)) (now (l .exit)) (now (r .exit)) (now (q .exit)) ≡ afterwards (refined (columns (now (id .entry)) (now (l .entry)) (now (r .entry)) (now (q .entry))) count (now (request .entry))) (columns (now (id .entry)) (now (l .entry)) (now (r .entry)) (now (q .entry))) ⌝ }
+    requires { ⌜ checked (lentColumns id l r q) count ≡ answer (rows (lentColumns id l r q) count) ⌝ }
+    ensures { λ t. ⌜ countedSays t ≡ counted (refined (oldColumns id l r q) count (old request)) ⌝ }
+    ensures { λ t. ⌜ newColumns id l r q ≡ afterwards (refined (oldColumns id l r q) count (old request)) (oldColumns id l r q) ⌝ }
 {
     let mut ids = places();
     let mut quotas = places();
@@ -235,8 +237,8 @@ pub fn refine(
     count: usize,
     request: &[u8],
 ) -> Counted
-    ensures { λ t. ⌜ countedSays t ≡ counted (refined (columns (now (id .entry)) (now (l .entry)) (now (r .entry)) (now (q .entry))) count (now (request .entry))) ⌝ }
-    ensures { λ t. ⌜ columns (now (id .exit)) (now (l .exit)) (now (r .exit)) (now (q .exit)) ≡ afterwards (refined (columns (now (id .entry)) (now (l .entry)) (now (r .entry)) (now (q .entry))) count (now (request .entry))) (columns (now (id .entry)) (now (l .entry)) (now (r .entry)) (now (q .entry))) ⌝ }
+    ensures { λ t. ⌜ countedSays t ≡ counted (refined (oldColumns id l r q) count (old request)) ⌝ }
+    ensures { λ t. ⌜ newColumns id l r q ≡ afterwards (refined (oldColumns id l r q) count (old request)) (oldColumns id l r q) ⌝ }
 {
     match check_columns(&*id, &*l, &*r, &*q, count) {
         Checked::Refused(why) => Counted::Refused(why),

@@ -11,7 +11,7 @@ use Rattle.rules.specs.Answers.{Answer, answer}
 use Rattle.rules.specs.Limits.{mostEntries, greatestDepth}
 use Rattle.rules.proofs.Answers.{same-answer, never-refused, peel, wanted, then-answer}
 use Rattle.number.specs.Number.{Number, numberAt}
-use Rattle.request.specs.Entries.{pick, oneAt, noQuota, times, Positive}
+use Rattle.request.specs.Entries.{entry, pick, oneAt, noQuota, times, Positive}
 use Rattle.request.specs.Forest.{Forest, none, tree, preL}
 use Rattle.request.specs.Request.{Request, entries}
 use Rattle.request.specs.Reading.{positiveAt, EntryRead, entryAt, TreesRead, treesBy, treesAt, requestOf}
@@ -41,7 +41,7 @@ entry-some bytes at {e} h =
 -- the depth of the deepest entry
 abbrev pub depth : Forest → ℕ
 depth none = 0
-depth (tree i q c r) = pick (leb (depth r) (depth c)) (suc (depth c)) (depth r)
+depth (tree w c r) = pick (leb (depth r) (depth c)) (suc (depth c)) (depth r)
 
 -- `n` trees that were read, where `used` entries stand before them and there is room for `room` depths
 pub record ReadTrees (room n used : ℕ) (a : TreesRead) : Type 0 where
@@ -59,7 +59,7 @@ deeper false c r room h k = omega arith
 -- a tree and the trees to its right
 module _ (room n used : ℕ) (e : EntryRead) (c r : TreesRead) where
   read-tree : (1 ≤ e .id) × (1 ≤ e .quota) → used < mostEntries → ReadTrees room (e .children) (used + 1) c → ReadTrees (suc room) n (c .used) r
-      → ReadTrees (suc room) (suc n) used (record { trees = tree (e .id) (e .quota) (c .trees) (r .trees); next = r .next; used = r .used })
+      → ReadTrees (suc room) (suc n) used (record { trees = tree (entry (e .id) (e .quota)) (c .trees) (r .trees); next = r .next; used = r .used })
   read-tree s h k m =
       let i : pick (eqb 0 (e .id)) 1 0 ≡ 0 = rw (ne-eqb 0 (e .id) (omega (arith, s .0))) in
       let q : pick (eqb (e .quota) 0) 1 0 ≡ 0 = rw (ne-eqb (e .quota) 0 (omega (arith, s .1))) in

@@ -9,7 +9,7 @@ use lib.Dec.{eqb, leb}
 use lib.ListN.{length}
 use borrow.Author.Tests.{eqb-true, eq-eqb, le-leb, lt-leb}
 use Rattle.rules.proofs.Cases.{by-lt}
-use Rattle.request.specs.Entries.{Entry, pick, sum, total, times, quotaOf, before, Same, Distinct, Positive}
+use Rattle.request.specs.Entries.{Entry, pick, quota, sum, total, times, quotaOf, before, Same, Distinct, Positive}
 
 pub sum-append : (f : Entry → ℕ) (s t : List Entry) → sum f (s ++ t) ≡ sum f s + sum f t
 sum-append f [] t = omega arith
@@ -33,38 +33,38 @@ count-head x s = rw (eqb-same x) (omega arith)
 pub before-left : (x : ℕ) (s t : List Entry) → 1 ≤ times x s → before x (s ++ t) ≡ before x s
 before-left x [] t h = absurd (omega arith)
 before-left x (e ∷ s) t h =
-    (elim (eqb x (e .id)) as (λ b. 1 ≤ pick b 1 0 + times x s → pick b 0 (e .quota + before x (s ++ t)) ≡ pick b 0 (e .quota + before x s))
+    (elim (eqb x (e .id)) as (λ b. 1 ≤ pick b 1 0 + times x s → pick b 0 (quota e + before x (s ++ t)) ≡ pick b 0 (quota e + before x s))
     [ true ↦ λ h. refl | false ↦ λ h. omega (arith, before-left x s t (omega arith)) ]) h
 
 pub before-right : (x : ℕ) (s t : List Entry) → times x s ≡ 0 → before x (s ++ t) ≡ total s + before x t
 before-right x [] t h = omega arith
 before-right x (e ∷ s) t h =
-    (elim (eqb x (e .id)) as (λ b. pick b 1 0 + times x s ≡ 0 → pick b 0 (e .quota + before x (s ++ t)) ≡ e .quota + total s + before x t)
+    (elim (eqb x (e .id)) as (λ b. pick b 1 0 + times x s ≡ 0 → pick b 0 (quota e + before x (s ++ t)) ≡ quota e + total s + before x t)
     [ true ↦ λ h. omega arith | false ↦ λ h. omega (arith, before-right x s t (omega arith)) ]) h
 
 pub before-here : (x : ℕ) (e : Entry) (s : List Entry) → eqb x (e .id) ≡ true → before x (e ∷ s) ≡ 0
 before-here x e s h = rw h
 
-pub before-past : (x : ℕ) (e : Entry) (s : List Entry) → eqb x (e .id) ≡ false → before x (e ∷ s) ≡ e .quota + before x s
+pub before-past : (x : ℕ) (e : Entry) (s : List Entry) → eqb x (e .id) ≡ false → before x (e ∷ s) ≡ quota e + before x s
 before-past x e s h = rw h
 
 pub quota-total : (x : ℕ) (s : List Entry) → quotaOf x s ≤ total s
 quota-total x [] = omega arith
 quota-total x (e ∷ s) =
-    elim (eqb x (e .id)) as (λ b. pick b (e .quota) 0 + quotaOf x s ≤ e .quota + total s)
+    elim (eqb x (e .id)) as (λ b. pick b (quota e) 0 + quotaOf x s ≤ quota e + total s)
     [ true ↦ omega (arith, quota-total x s) | false ↦ omega (arith, quota-total x s) ]
 
 pub quota-none : (x : ℕ) (s : List Entry) → times x s ≡ 0 → quotaOf x s ≡ 0
 quota-none x [] h = refl
 quota-none x (e ∷ s) h =
-    (elim (eqb x (e .id)) as (λ b. pick b 1 0 + times x s ≡ 0 → pick b (e .quota) 0 + quotaOf x s ≡ 0)
+    (elim (eqb x (e .id)) as (λ b. pick b 1 0 + times x s ≡ 0 → pick b (quota e) 0 + quotaOf x s ≡ 0)
     [ true ↦ λ h. absurd (omega arith) | false ↦ λ h. omega (arith, quota-none x s (omega arith)) ]) h
 
 -- the range of x ends where the whole sequence does, or before that
 pub before-within : (x : ℕ) (s : List Entry) → 1 ≤ times x s → before x s + quotaOf x s ≤ total s
 before-within x [] h = absurd (omega arith)
 before-within x (e ∷ s) h =
-    (elim (eqb x (e .id)) as (λ b. 1 ≤ pick b 1 0 + times x s → pick b 0 (e .quota + before x s) + (pick b (e .quota) 0 + quotaOf x s) ≤ e .quota + total s)
+    (elim (eqb x (e .id)) as (λ b. 1 ≤ pick b 1 0 + times x s → pick b 0 (quota e + before x s) + (pick b (quota e) 0 + quotaOf x s) ≤ quota e + total s)
     [ true ↦ λ h. omega (arith, quota-total x s) | false ↦ λ h. omega (arith, before-within x s (omega arith)) ]) h
 
 pub some-quota : (q : ℕ) → pick (eqb q 0) 1 0 ≡ 0 → 1 ≤ q
@@ -78,7 +78,7 @@ positive-step false q c k h l = omega arith
 pub positive-quota : (x : ℕ) (s : List Entry) → Positive s → times x s ≤ quotaOf x s
 positive-quota x [] h = omega arith
 positive-quota x (e ∷ s) h =
-    positive-step (eqb x (e .id)) (e .quota) (times x s) (quotaOf x s) (some-quota (e .quota) (omega arith)) (positive-quota x s (omega arith))
+    positive-step (eqb x (e .id)) (quota e) (times x s) (quotaOf x s) (some-quota (quota e) (omega arith)) (positive-quota x s (omega arith))
 
 -- two functions that agree at the entries have one sum
 pub sum-at : (f g : Entry → ℕ) (s : List Entry) → ((e : Entry) → 1 ≤ times (e .id) s → f e ≡ g e) → sum f s ≡ sum g s
@@ -90,13 +90,13 @@ pub own-quotas : (s : List Entry) → Distinct s → sum (λ e. quotaOf (e .id) 
 own-quotas [] d = refl
 own-quotas (e ∷ s) d =
     let one : pick (eqb (e .id) (e .id)) 1 0 ≡ 1 = rw (eqb-same (e .id)) in
-    let own : pick (eqb (e .id) (e .id)) (e .quota) 0 ≡ e .quota = rw (eqb-same (e .id)) in
+    let own : pick (eqb (e .id) (e .id)) (quota e) 0 ≡ quota e = rw (eqb-same (e .id)) in
     omega (arith, quota-none (e .id) s (omega (arith, d (e .id))), sum-at (λ v. quotaOf (v .id) (e ∷ s)) (λ v. quotaOf (v .id) s) s other, own-quotas s (λ x. omega (arith, d x)))
   where
     other : (v : Entry) → 1 ≤ times (v .id) s → quotaOf (v .id) (e ∷ s) ≡ quotaOf (v .id) s
     other v k = go (eqb (v .id) (e .id)) (d (v .id))
       where
-        go : (b : Bool) → pick b 1 0 + times (v .id) s ≤ 1 → pick b (e .quota) 0 + quotaOf (v .id) s ≡ quotaOf (v .id) s
+        go : (b : Bool) → pick b 1 0 + times (v .id) s ≤ 1 → pick b (quota e) 0 + quotaOf (v .id) s ≡ quotaOf (v .id) s
         go true h = absurd (omega arith)
         go false h = omega arith
 
@@ -121,7 +121,7 @@ pub apart : (x y : ℕ) (s : List Entry) → x ≢ y → times x s ≡ 1 → tim
 apart x y [] n h k = absurd (omega arith)
 apart x y (e ∷ s) n h k =
     apart-step (eqb x (e .id)) (eqb y (e .id)) (λ p q. n (eqb-true x (e .id) p ∙ sym (eqb-true y (e .id) q)))
-    (e .quota) (times x s) (before x s) (quotaOf x s) (times y s) (before y s) (quotaOf y s)
+    (quota e) (times x s) (before x s) (quotaOf x s) (times y s) (before y s) (quotaOf y s)
     (quota-none x s) (quota-none y s) (apart x y s n) h k
 
 -- two tests that say the same

@@ -5,130 +5,130 @@ use mathlib.Core.List.{List, [], _∷_, _++_}
 use Prim.Native.Nat.{ℕ, zero, suc, _+_, _≤_, _<_}
 use native.Mathlib.Omega.{arith}
 use lib.Dec.{eqb, leb}
-use Rattle.request.specs.Entries.{pick, quota, oneAt, quotaAt, noQuota, Entry, entry, total, times, has, before, Same, Positive}
+use Rattle.request.specs.Entries.{pick, quota, oneAt, quotaAt, noQuota, Entry, total, times, has, before, Same, Positive}
 use Rattle.request.specs.Forest.{Forest, none, tree, Direction, upright, inverted, preL, preR, postL, postR, left, right, above, treeOrder}
 use Rattle.request.proofs.Sums.{sum-append, before-left, before-right, before-within, before-here, before-past, positive-quota, some-quota, noLater, no-later, later-l, later-r, later-iff}
 
 -- each of the sequences holds the entries
 pub same-preR : (t : Forest) → Same (preR t) (preL t)
 same-preR none f = refl
-same-preR (tree i q c r) f =
-    omega (arith, sum-append f (preR r) (entry i q ∷ preR c), sum-append f (preL c) (preL r), same-preR c f, same-preR r f)
+same-preR (tree w c r) f =
+    omega (arith, sum-append f (preR r) (w ∷ preR c), sum-append f (preL c) (preL r), same-preR c f, same-preR r f)
 
 pub same-postL : (t : Forest) → Same (postL t) (preL t)
 same-postL none f = refl
-same-postL (tree i q c r) f =
-    omega (arith, sum-append f (postL c) (entry i q ∷ postL r), sum-append f (preL c) (preL r), same-postL c f, same-postL r f)
+same-postL (tree w c r) f =
+    omega (arith, sum-append f (postL c) (w ∷ postL r), sum-append f (preL c) (preL r), same-postL c f, same-postL r f)
 
 pub same-postR : (t : Forest) → Same (postR t) (preL t)
 same-postR none f = refl
-same-postR (tree i q c r) f =
-    omega (arith, sum-append f (postR r) (postR c ++ entry i q ∷ []), sum-append f (postR c) (entry i q ∷ []), sum-append f (preL c) (preL r), same-postR c f, same-postR r f)
+same-postR (tree w c r) f =
+    omega (arith, sum-append f (postR r) (postR c ++ w ∷ []), sum-append f (postR c) (w ∷ []), sum-append f (preL c) (preL r), same-postR c f, same-postR r f)
 
 -- where an entry stands, and the quotas before it in each sequence: it is the root
-pub record Root (x i q : ℕ) (c r : Forest) : Type 0 where
-  pub is-root : eqb x i ≡ true
-  pub some : 1 ≤ q
+pub record Root (x : ℕ) (w : Entry) (c r : Forest) : Type 0 where
+  pub is-root : eqb x (w .id) ≡ true
+  pub some : 1 ≤ quota w
   pub in-c : times x (preL c) ≡ 0
   pub in-r : times x (preL r) ≡ 0
-  pub at-preL : before x (preL (tree i q c r)) ≡ 0
-  pub at-preR : before x (preR (tree i q c r)) ≡ total (preL r)
-  pub at-postL : before x (postL (tree i q c r)) ≡ total (preL c)
-  pub at-postR : before x (postR (tree i q c r)) ≡ total (preL r) + total (preL c)
+  pub at-preL : before x (preL (tree w c r)) ≡ 0
+  pub at-preR : before x (preR (tree w c r)) ≡ total (preL r)
+  pub at-postL : before x (postL (tree w c r)) ≡ total (preL c)
+  pub at-postR : before x (postR (tree w c r)) ≡ total (preL r) + total (preL c)
 
 -- below the root
-pub record Inside (x i q : ℕ) (c r : Forest) : Type 0 where
-  pub is-root : eqb x i ≡ false
+pub record Inside (x : ℕ) (w : Entry) (c r : Forest) : Type 0 where
+  pub is-root : eqb x (w .id) ≡ false
   pub in-c : times x (preL c) ≡ 1
   pub in-r : times x (preL r) ≡ 0
-  pub at-preL : before x (preL (tree i q c r)) ≡ q + before x (preL c)
-  pub at-preR : before x (preR (tree i q c r)) ≡ total (preL r) + q + before x (preR c)
-  pub at-postL : before x (postL (tree i q c r)) ≡ before x (postL c)
-  pub at-postR : before x (postR (tree i q c r)) ≡ total (preL r) + before x (postR c)
+  pub at-preL : before x (preL (tree w c r)) ≡ quota w + before x (preL c)
+  pub at-preR : before x (preR (tree w c r)) ≡ total (preL r) + quota w + before x (preR c)
+  pub at-postL : before x (postL (tree w c r)) ≡ before x (postL c)
+  pub at-postR : before x (postR (tree w c r)) ≡ total (preL r) + before x (postR c)
   pub end-preL : before x (preL c) < total (preL c)
   pub end-preR : before x (preR c) < total (preL c)
   pub end-postL : before x (postL c) < total (preL c)
   pub end-postR : before x (postR c) < total (preL c)
 
 -- in a later tree
-pub record Beyond (x i q : ℕ) (c r : Forest) : Type 0 where
-  pub is-root : eqb x i ≡ false
+pub record Beyond (x : ℕ) (w : Entry) (c r : Forest) : Type 0 where
+  pub is-root : eqb x (w .id) ≡ false
   pub in-c : times x (preL c) ≡ 0
   pub in-r : times x (preL r) ≡ 1
-  pub at-preL : before x (preL (tree i q c r)) ≡ q + total (preL c) + before x (preL r)
-  pub at-preR : before x (preR (tree i q c r)) ≡ before x (preR r)
-  pub at-postL : before x (postL (tree i q c r)) ≡ total (preL c) + q + before x (postL r)
-  pub at-postR : before x (postR (tree i q c r)) ≡ before x (postR r)
+  pub at-preL : before x (preL (tree w c r)) ≡ quota w + total (preL c) + before x (preL r)
+  pub at-preR : before x (preR (tree w c r)) ≡ before x (preR r)
+  pub at-postL : before x (postL (tree w c r)) ≡ total (preL c) + quota w + before x (postL r)
+  pub at-postR : before x (postR (tree w c r)) ≡ before x (postR r)
   pub end-preL : before x (preL r) < total (preL r)
   pub end-preR : before x (preR r) < total (preL r)
   pub end-postL : before x (postL r) < total (preL r)
   pub end-postR : before x (postR r) < total (preL r)
 
-data Spot (x i q : ℕ) (c r : Forest) : Type 0 where
-  root : Root x i q c r → Spot x i q c r
-  inside : Inside x i q c r → Spot x i q c r
-  beyond : Beyond x i q c r → Spot x i q c r
+data Spot (x : ℕ) (w : Entry) (c r : Forest) : Type 0 where
+  root : Root x w c r → Spot x w c r
+  inside : Inside x w c r → Spot x w c r
+  beyond : Beyond x w c r → Spot x w c r
 
 -- an entry of a positive quota ends before the sequence does
 within : (x : ℕ) (s t : List Entry) → Same s t → Positive t → times x t ≡ 1 → before x s < total t
 within x s t same pos h = omega (arith, same quota, same (quotaAt x), before-within x s (omega (arith, same (oneAt x))), positive-quota x t pos)
 
-module _ (x i q : ℕ) (c r : Forest) (pos : Positive (preL (tree i q c r))) where
-  pub at-root : eqb x i ≡ true → times x (preL c) ≡ 0 → times x (preL r) ≡ 0 → Root x i q c r
+module _ (x : ℕ) (w : Entry) (c r : Forest) (pos : Positive (preL (tree w c r))) where
+  pub at-root : eqb x (w .id) ≡ true → times x (preL c) ≡ 0 → times x (preL r) ≡ 0 → Root x w c r
   at-root e nc nr = record {
     is-root = e;
-    some = some-quota q (omega arith);
+    some = some-quota (quota w) (omega arith);
     in-c = nc;
     in-r = nr;
-    at-preL = before-here x (entry i q) (preL c ++ preL r) e;
-    at-preR = omega (arith, before-right x (preR r) (entry i q ∷ preR c) (same-preR r (oneAt x) ∙ nr), before-here x (entry i q) (preR c) e, same-preR r quota);
-    at-postL = omega (arith, before-right x (postL c) (entry i q ∷ postL r) (same-postL c (oneAt x) ∙ nc), before-here x (entry i q) (postL r) e, same-postL c quota);
+    at-preL = before-here x w (preL c ++ preL r) e;
+    at-preR = omega (arith, before-right x (preR r) (w ∷ preR c) (same-preR r (oneAt x) ∙ nr), before-here x w (preR c) e, same-preR r quota);
+    at-postL = omega (arith, before-right x (postL c) (w ∷ postL r) (same-postL c (oneAt x) ∙ nc), before-here x w (postL r) e, same-postL c quota);
     at-postR = omega (
       arith,
-      before-right x (postR r) (postR c ++ entry i q ∷ []) (same-postR r (oneAt x) ∙ nr),
-      before-right x (postR c) (entry i q ∷ []) (same-postR c (oneAt x) ∙ nc),
-      before-here x (entry i q) [] e,
+      before-right x (postR r) (postR c ++ w ∷ []) (same-postR r (oneAt x) ∙ nr),
+      before-right x (postR c) (w ∷ []) (same-postR c (oneAt x) ∙ nc),
+      before-here x w [] e,
       same-postR c quota,
       same-postR r quota,
     );
   }
 
-  pub at-inside : eqb x i ≡ false → times x (preL c) ≡ 1 → times x (preL r) ≡ 0 → Inside x i q c r
+  pub at-inside : eqb x (w .id) ≡ false → times x (preL c) ≡ 1 → times x (preL r) ≡ 0 → Inside x w c r
   at-inside e nc nr =
       let pc : Positive (preL c) = omega (arith, sum-append noQuota (preL c) (preL r)) in record {
         is-root = e;
         in-c = nc;
         in-r = nr;
-        at-preL = omega (arith, before-past x (entry i q) (preL c ++ preL r) e, before-left x (preL c) (preL r) (omega arith));
-        at-preR = omega (arith, before-right x (preR r) (entry i q ∷ preR c) (same-preR r (oneAt x) ∙ nr), before-past x (entry i q) (preR c) e, same-preR r quota);
-        at-postL = before-left x (postL c) (entry i q ∷ postL r) (omega (arith, same-postL c (oneAt x)));
-        at-postR = omega (arith, before-right x (postR r) (postR c ++ entry i q ∷ []) (same-postR r (oneAt x) ∙ nr), before-left x (postR c) (entry i q ∷ []) (omega (arith, same-postR c (oneAt x))), same-postR r quota);
+        at-preL = omega (arith, before-past x w (preL c ++ preL r) e, before-left x (preL c) (preL r) (omega arith));
+        at-preR = omega (arith, before-right x (preR r) (w ∷ preR c) (same-preR r (oneAt x) ∙ nr), before-past x w (preR c) e, same-preR r quota);
+        at-postL = before-left x (postL c) (w ∷ postL r) (omega (arith, same-postL c (oneAt x)));
+        at-postR = omega (arith, before-right x (postR r) (postR c ++ w ∷ []) (same-postR r (oneAt x) ∙ nr), before-left x (postR c) (w ∷ []) (omega (arith, same-postR c (oneAt x))), same-postR r quota);
         end-preL = within x (preL c) (preL c) (λ f. refl) pc nc;
         end-preR = within x (preR c) (preL c) (same-preR c) pc nc;
         end-postL = within x (postL c) (preL c) (same-postL c) pc nc;
         end-postR = within x (postR c) (preL c) (same-postR c) pc nc;
       }
 
-  pub at-beyond : eqb x i ≡ false → times x (preL c) ≡ 0 → times x (preL r) ≡ 1 → Beyond x i q c r
+  pub at-beyond : eqb x (w .id) ≡ false → times x (preL c) ≡ 0 → times x (preL r) ≡ 1 → Beyond x w c r
   at-beyond e nc nr =
       let pr : Positive (preL r) = omega (arith, sum-append noQuota (preL c) (preL r)) in record {
         is-root = e;
         in-c = nc;
         in-r = nr;
-        at-preL = omega (arith, before-past x (entry i q) (preL c ++ preL r) e, before-right x (preL c) (preL r) nc);
-        at-preR = before-left x (preR r) (entry i q ∷ preR c) (omega (arith, same-preR r (oneAt x)));
-        at-postL = omega (arith, before-right x (postL c) (entry i q ∷ postL r) (same-postL c (oneAt x) ∙ nc), before-past x (entry i q) (postL r) e, same-postL c quota);
-        at-postR = before-left x (postR r) (postR c ++ entry i q ∷ []) (omega (arith, same-postR r (oneAt x)));
+        at-preL = omega (arith, before-past x w (preL c ++ preL r) e, before-right x (preL c) (preL r) nc);
+        at-preR = before-left x (preR r) (w ∷ preR c) (omega (arith, same-preR r (oneAt x)));
+        at-postL = omega (arith, before-right x (postL c) (w ∷ postL r) (same-postL c (oneAt x) ∙ nc), before-past x w (postL r) e, same-postL c quota);
+        at-postR = before-left x (postR r) (postR c ++ w ∷ []) (omega (arith, same-postR r (oneAt x)));
         end-preL = within x (preL r) (preL r) (λ f. refl) pr nr;
         end-preR = within x (preR r) (preL r) (same-preR r) pr nr;
         end-postL = within x (postL r) (preL r) (same-postL r) pr nr;
         end-postR = within x (postR r) (preL r) (same-postR r) pr nr;
       }
 
-  spot : times x (preL (tree i q c r)) ≡ 1 → Spot x i q c r
-  spot h = go (eqb x i) refl (times x (preL c)) refl (omega (arith, sum-append (oneAt x) (preL c) (preL r)))
+  spot : times x (preL (tree w c r)) ≡ 1 → Spot x w c r
+  spot h = go (eqb x (w .id)) refl (times x (preL c)) refl (omega (arith, sum-append (oneAt x) (preL c) (preL r)))
     where
-      go : (b : Bool) → eqb x i ≡ b → (n : ℕ) → times x (preL c) ≡ n → pick (eqb x i) 1 0 + (times x (preL c) + times x (preL r)) ≡ 1 → Spot x i q c r
+      go : (b : Bool) → eqb x (w .id) ≡ b → (n : ℕ) → times x (preL c) ≡ n → pick (eqb x (w .id)) 1 0 + (times x (preL c) + times x (preL r)) ≡ 1 → Spot x w c r
       go true e n k h = let h' = rw e at h in root (at-root e (omega arith) (omega arith))
       go false e zero k h = let h' = rw e at h in beyond (at-beyond e k (omega arith))
       go false e (suc n) k h = let h' = rw e at h in inside (at-inside e (omega arith) (omega arith))
@@ -136,22 +136,22 @@ module _ (x i q : ℕ) (c r : Forest) (pos : Positive (preL (tree i q c r))) whe
 -- an id that stands in no tree is above none
 pub above-none : (t : Forest) (x y : ℕ) → times x (preL t) ≡ 0 → above t x y ≡ false
 above-none none x y h = refl
-above-none (tree i q c r) x y h =
-    let k : pick (eqb x i) 1 0 + (times x (preL c) + times x (preL r)) ≡ 0 = omega (arith, sum-append (oneAt x) (preL c) (preL r)) in
-    go (eqb x i) k (above-none c x y (omega arith)) (above-none r x y (omega arith))
+above-none (tree w c r) x y h =
+    let k : pick (eqb x (w .id)) 1 0 + (times x (preL c) + times x (preL r)) ≡ 0 = omega (arith, sum-append (oneAt x) (preL c) (preL r)) in
+    go (eqb x (w .id)) k (above-none c x y (omega arith)) (above-none r x y (omega arith))
   where
     go : (b : Bool) → pick b 1 0 + (times x (preL c) + times x (preL r)) ≡ 0 → above c x y ≡ false → above r x y ≡ false
-        → ((b && (eqb y i || has y (preL c))) || (above c x y || above r x y)) ≡ false
+        → ((b && (eqb y (w .id) || has y (preL c))) || (above c x y || above r x y)) ≡ false
     go true k p s = absurd (omega arith)
     go false k p s = rw (p, s)
 
 -- and none is above it
 pub none-above : (t : Forest) (x y : ℕ) → times y (preL t) ≡ 0 → above t x y ≡ false
 none-above none x y h = refl
-none-above (tree i q c r) x y h =
-    let k : pick (eqb y i) 1 0 + (times y (preL c) + times y (preL r)) ≡ 0 = omega (arith, sum-append (oneAt y) (preL c) (preL r)) in
+none-above (tree w c r) x y h =
+    let k : pick (eqb y (w .id)) 1 0 + (times y (preL c) + times y (preL r)) ≡ 0 = omega (arith, sum-append (oneAt y) (preL c) (preL r)) in
     let z : times y (preL c) ≡ 0 = omega arith in
-    rw z (go (eqb x i) (eqb y i) k (none-above c x y z) (none-above r x y (omega arith)))
+    rw z (go (eqb x (w .id)) (eqb y (w .id)) k (none-above c x y z) (none-above r x y (omega arith)))
   where
     go : (a b : Bool) → pick b 1 0 + (times y (preL c) + times y (preL r)) ≡ 0 → above c x y ≡ false → above r x y ≡ false
         → ((a && (b || false)) || (above c x y || above r x y)) ≡ false
@@ -159,9 +159,9 @@ none-above (tree i q c r) x y h =
     go true false k p s = rw (p, s)
     go false false k p s = rw (p, s)
 
-module _ {x y i q : ℕ} {c r : Forest} where
+module _ {x y : ℕ} {w : Entry} {c r : Forest} where
   -- the order of two entries, by where they stand
-  rel : Spot x i q c r → Spot y i q c r → Bool
+  rel : Spot x w c r → Spot y w c r → Bool
   rel (root a) (root b) = true
   rel (root a) (inside b) = true
   rel (root a) (beyond b) = false
@@ -172,7 +172,7 @@ module _ {x y i q : ℕ} {c r : Forest} where
   rel (beyond a) (inside b) = false
   rel (beyond a) (beyond b) = above r x y
 
-  above-rel : (a : Spot x i q c r) (b : Spot y i q c r) → above (tree i q c r) x y ≡ rel a b
+  above-rel : (a : Spot x w c r) (b : Spot y w c r) → above (tree w c r) x y ≡ rel a b
   unfolding rel
   above-rel (root a) (root b) = rw (a .is-root, b .is-root)
   above-rel (root a) (inside b) = rw (a .is-root, b .is-root, b .in-c)
@@ -184,10 +184,10 @@ module _ {x y i q : ℕ} {c r : Forest} where
   above-rel (beyond a) (inside b) = rw (a .is-root, above-none c x y (a .in-c), none-above r x y (b .in-r))
   above-rel (beyond a) (beyond b) = rw (a .is-root, above-none c x y (a .in-c))
 
-  upright-node : (a : Spot x i q c r) (b : Spot y i q c r)
+  upright-node : (a : Spot x w c r) (b : Spot y w c r)
       → (times x (preL c) ≡ 1 → times y (preL c) ≡ 1 → above c x y ≡ noLater (before x (preL c)) (before x (preR c)) (before y (preL c)) (before y (preR c)))
       → (times x (preL r) ≡ 1 → times y (preL r) ≡ 1 → above r x y ≡ noLater (before x (preL r)) (before x (preR r)) (before y (preL r)) (before y (preR r)))
-      → rel a b ≡ noLater (before x (preL (tree i q c r))) (before x (preR (tree i q c r))) (before y (preL (tree i q c r))) (before y (preR (tree i q c r)))
+      → rel a b ≡ noLater (before x (preL (tree w c r))) (before x (preR (tree w c r))) (before y (preL (tree w c r))) (before y (preR (tree w c r)))
   unfolding rel
   upright-node (root a) (root b) ihc ihr = sym (no-later (omega arith) (omega arith))
   upright-node (root a) (inside b) ihc ihr = sym (no-later (omega arith) (omega arith))
@@ -199,11 +199,11 @@ module _ {x y i q : ℕ} {c r : Forest} where
   upright-node (beyond a) (inside b) ihc ihr = sym (later-l _ _ _ _ (omega arith))
   upright-node (beyond a) (beyond b) ihc ihr = ihr (a .in-r) (b .in-r) ∙ later-iff _ _ _ _ _ _ _ _ (omega arith) (omega arith)
 
-module _ {x y i q : ℕ} {c r : Forest} where
-  inverted-node : (a : Spot x i q c r) (b : Spot y i q c r)
+module _ {x y : ℕ} {w : Entry} {c r : Forest} where
+  inverted-node : (a : Spot x w c r) (b : Spot y w c r)
       → (times x (preL c) ≡ 1 → times y (preL c) ≡ 1 → above c y x ≡ noLater (before x (postL c)) (before x (postR c)) (before y (postL c)) (before y (postR c)))
       → (times x (preL r) ≡ 1 → times y (preL r) ≡ 1 → above r y x ≡ noLater (before x (postL r)) (before x (postR r)) (before y (postL r)) (before y (postR r)))
-      → rel b a ≡ noLater (before x (postL (tree i q c r))) (before x (postR (tree i q c r))) (before y (postL (tree i q c r))) (before y (postR (tree i q c r)))
+      → rel b a ≡ noLater (before x (postL (tree w c r))) (before x (postR (tree w c r))) (before y (postL (tree w c r))) (before y (postR (tree w c r)))
   unfolding rel
   inverted-node (root a) (root b) ihc ihr = sym (no-later (omega arith) (omega arith))
   inverted-node (root a) (inside b) ihc ihr = sym (later-l _ _ _ _ (omega arith))
@@ -219,9 +219,9 @@ module _ {x y i q : ℕ} {c r : Forest} where
 upright-order : (t : Forest) (x y : ℕ) → Positive (preL t) → times x (preL t) ≡ 1 → times y (preL t) ≡ 1
     → above t x y ≡ noLater (before x (preL t)) (before x (preR t)) (before y (preL t)) (before y (preR t))
 upright-order none x y pos hx hy = absurd (omega arith)
-upright-order (tree i q c r) x y pos hx hy =
-    let a = spot x i q c r pos hx in
-    let b = spot y i q c r pos hy in
+upright-order (tree w c r) x y pos hx hy =
+    let a = spot x w c r pos hx in
+    let b = spot y w c r pos hy in
     let p = sum-append noQuota (preL c) (preL r) in
     above-rel a b ∙ upright-node a b (upright-order c x y (omega arith)) (upright-order r x y (omega arith))
 
@@ -229,9 +229,9 @@ upright-order (tree i q c r) x y pos hx hy =
 inverted-order : (t : Forest) (x y : ℕ) → Positive (preL t) → times x (preL t) ≡ 1 → times y (preL t) ≡ 1
     → above t y x ≡ noLater (before x (postL t)) (before x (postR t)) (before y (postL t)) (before y (postR t))
 inverted-order none x y pos hx hy = absurd (omega arith)
-inverted-order (tree i q c r) x y pos hx hy =
-    let a = spot x i q c r pos hx in
-    let b = spot y i q c r pos hy in
+inverted-order (tree w c r) x y pos hx hy =
+    let a = spot x w c r pos hx in
+    let b = spot y w c r pos hy in
     let p = sum-append noQuota (preL c) (preL r) in
     above-rel b a ∙ inverted-node a b (inverted-order c x y (omega arith)) (inverted-order r x y (omega arith))
 

@@ -30,7 +30,7 @@ abbrev pub oneAt : ℕ → Entry → ℕ
 oneAt x e = pick (eqb x (e .id)) 1 0
 
 abbrev pub quotaAt : ℕ → Entry → ℕ
-quotaAt x e = pick (eqb x (e .id)) (e .quota) 0
+quotaAt x e = pick (eqb x (e .id)) (quota e) 0
 
 abbrev pub noQuota : Entry → ℕ
 noQuota e = pick (eqb (e .quota) 0) 1 0
@@ -51,7 +51,7 @@ quotaOf x s = sum (quotaAt x) s
 -- the quotas that stand before the id x
 abbrev pub before : ℕ → List Entry → ℕ
 before x [] = 0
-before x (e ∷ s) = pick (eqb x (e .id)) 0 (e .quota + before x s)
+before x (e ∷ s) = pick (eqb x (e .id)) 0 (quota e + before x s)
 
 -- some entries without the id u
 abbrev pub without : ℕ → List Entry → List Entry

@@ -3,12 +3,12 @@ use mathlib.Core.Bool.{Bool, false, _&&_, _||_}
 use mathlib.Core.List.{List, [], _∷_, _++_}
 use Prim.Native.Nat.{ℕ}
 use lib.Dec.{eqb}
-use Rattle.request.specs.Entries.{Entry, entry, has}
+use Rattle.request.specs.Entries.{Entry, has}
 
--- no tree; or a first tree, with its root's id and quota and the trees of its children, and the trees to its right
+-- no tree; or a first tree, with its root's entry and the trees of its children, and the trees to its right
 pub data Forest : Type 0 where
   none : Forest
-  tree : (id quota : ℕ) (children rest : Forest) → Forest
+  tree : (root : Entry) (children rest : Forest) → Forest
 
 -- the direction of a request: upright, a parent is a subgroup of its descendants; inverted, a descendant is one of its ancestors
 pub data Direction : Type 0 where
@@ -17,22 +17,22 @@ pub data Direction : Type 0 where
 -- pre-order, trees and children left to right: a parent before its children
 abbrev pub preL : Forest → List Entry
 preL none = []
-preL (tree i q c r) = entry i q ∷ preL c ++ preL r
+preL (tree w c r) = w ∷ preL c ++ preL r
 
 -- pre-order, both right to left
 abbrev pub preR : Forest → List Entry
 preR none = []
-preR (tree i q c r) = preR r ++ entry i q ∷ preR c
+preR (tree w c r) = preR r ++ w ∷ preR c
 
 -- post-order, left to right: a parent after its children
 abbrev pub postL : Forest → List Entry
 postL none = []
-postL (tree i q c r) = postL c ++ entry i q ∷ postL r
+postL (tree w c r) = postL c ++ w ∷ postL r
 
 -- post-order, right to left
 abbrev pub postR : Forest → List Entry
 postR none = []
-postR (tree i q c r) = postR r ++ (postR c ++ entry i q ∷ [])
+postR (tree w c r) = postR r ++ (postR c ++ w ∷ [])
 
 -- L, the left sequence, and R, the right sequence
 abbrev pub left : Direction → Forest → List Entry
@@ -46,7 +46,7 @@ right inverted t = postR t
 -- x is y or an ancestor of y
 abbrev pub above : Forest → ℕ → ℕ → Bool
 above none x y = false
-above (tree i q c r) x y = (eqb x i && (eqb y i || has y (preL c))) || (above c x y || above r x y)
+above (tree w c r) x y = (eqb x (w .id) && (eqb y (w .id) || has y (preL c))) || (above c x y || above r x y)
 
 -- x ≤ y among the entries: upright, a parent is a subgroup of its descendants; inverted, a descendant is a subgroup of its ancestors
 abbrev pub treeOrder : Direction → Forest → ℕ → ℕ → Bool

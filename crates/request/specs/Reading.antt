@@ -7,6 +7,7 @@ use lib.ListN.{length}
 use Rattle.rules.specs.Answers.{Answer, answer, refused, then}
 use Rattle.rules.specs.Limits.{mostEntries, greatestDepth}
 use Rattle.number.specs.Number.{Number, numberAt}
+use Rattle.request.specs.Entries.{entry}
 use Rattle.request.specs.Forest.{Forest, none, tree, Direction, upright, inverted}
 use Rattle.request.specs.Request.{Request}
 
@@ -44,7 +45,7 @@ treesBy below deep (suc n) bytes at used =
     (then (entryAt bytes at) λ e.
     then (below (e .children) (e .next) (used + 1)) λ c.
     then (treesBy below deep n bytes (c .next) (c .used)) λ r.
-    answer (record { trees = tree (e .id) (e .quota) (c .trees) (r .trees); next = r .next; used = r .used })))
+    answer (record { trees = tree (entry (e .id) (e .quota)) (c .trees) (r .trees); next = r .next; used = r .used })))
     (refused 7)
 
 -- with `room` for so many depths; a root has depth 1

@@ -2,3 +2,4 @@ pub mod Limits
 pub mod Answers
 pub mod Refusals
 pub mod Buffers
+pub mod Lent

@@ -6,7 +6,7 @@ use Prim.Native.Nat.{ℕ, _<_, _≤_}
 use lib.ListN.{length}
 use native.Mathlib.Omega.{arith}
 use borrow.Author.Tests.{lt-ltb, le-ltb}
-use Rattle.rules.specs.Answers.{Answer, answer, refused, then}
+use Rattle.rules.specs.Answers.{Answer, answer, refused, then, given}
 use Rattle.rules.specs.Limits.{mostRows}
 use Rattle.rules.specs.Refusals.{refusalNumber}
 use Rattle.rules.specs.declared.Refusal.{Refusal}
@@ -16,7 +16,7 @@ use Rattle.table.specs.Columns.{Row, Columns, rows, put, counted, afterwards}
 use Rattle.table.specs.Check.{lengthsBad, countBad, soundRows, checked}
 use Rattle.stored.specs.Stored.{Rows, rowsAt, rowsToEnd, readRows}
 use Rattle.table.specs.Held.{Holds}
-use Rattle.table.specs.Says.{checkedSays, given}
+use Rattle.table.specs.Says.{checkedSays}
 use Rattle.stored.specs.Says.{endSays}
 use Rattle.stored.specs.Work.{Work}
 use Rattle.table.specs.declared.Checked.{Checked}

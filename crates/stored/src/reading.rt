@@ -3,14 +3,16 @@ ghost use mathlib.Core.Path.{_≡_};
 ghost use mathlib.Core.List.{List, _++_};
 ghost use Prim.Native.Nat.{_≤_};
 ghost use lib.ListN.{length, take, drop};
-ghost use Rattle.rules.specs.Answers.{answer, then};
+ghost use Rattle.rules.specs.Answers.{answer, then, given};
 ghost use Rattle.rules.specs.Limits.{mostRows};
-ghost use Rattle.table.specs.Columns.{Row, columns, rows, put, counted, afterwards};
+ghost use Rattle.table.specs.Columns.{Row, rows, put, counted, afterwards};
 ghost use Rattle.table.specs.Held.{Holds};
 ghost use Rattle.stored.specs.Stored.{Rows, rowRead, rowsAt, rowsToEnd, readRows};
-ghost use Rattle.table.specs.Says.{checkedSays, countedSays, given};
+ghost use Rattle.table.specs.Says.{checkedSays, countedSays};
 ghost use Rattle.stored.specs.Says.{rowSays, endSays};
 ghost use Rattle.stored.specs.Work.{Work};
+ghost use Rattle.rules.specs.Lent.{old, new};
+ghost use Rattle.table.specs.Lent.{oldColumns, newColumns, lentColumns};
 use number::Drawn;
 use number::number_at;
 use rules::MOST_ROWS;
@@ -35,7 +37,7 @@ enum Ended {
 
 // The row at a position: 1, 2.
 fn row_at(bytes: &[u8], at: usize) -> RowDrawn
-    ensures { λ t. ⌜ rowSays t ≡ rowRead (now (bytes .entry)) at ⌝ }
+    ensures { λ t. ⌜ rowSays t ≡ rowRead (old bytes) at ⌝ }
 {
     match number_at(bytes, at) {
         Drawn::Refused(why) => RowDrawn::Refused(why),
@@ -62,9 +64,9 @@ fn rows_at(
     r: &mut [u32],
     q: &mut [u32],
 ) -> Ended
-    requires { ⌜ Holds (columns (now id) (now l) (now r) (now q)) count ⌝ }
-    ensures { λ t. ⌜ endSays t ≡ then (rowsAt count (now (bytes .entry)) at) (λ (s : Rows). answer (s .next)) ⌝ }
-    ensures { λ t. ⌜ ((s : Rows) → rowsAt count (now (bytes .entry)) at ≡ answer s → rows (columns (now (id .exit)) (now (l .exit)) (now (r .exit)) (now (q .exit))) count ≡ s .rows) ⌝ }
+    requires { ⌜ Holds (lentColumns id l r q) count ⌝ }
+    ensures { λ t. ⌜ endSays t ≡ then (rowsAt count (old bytes) at) (λ (s : Rows). answer (s .next)) ⌝ }
+    ensures { λ t. ⌜ ((s : Rows) → rowsAt count (old bytes) at ≡ answer s → rows (newColumns id l r q) count ≡ s .rows) ⌝ }
 {
     let mut next = at;
     let mut i = 0;
@@ -90,7 +92,7 @@ fn rows_at(
 fn copy(column: &mut [u32], work: &[u32], count: usize)
     requires { ⌜ count ≤ length (now column) ⌝ }
     requires { ⌜ count ≤ length (now work) ⌝ }
-    ensures { λ t. ⌜ now (column .exit) ≡ take count (now (work .entry)) ++ drop count (now (column .entry)) ⌝ }
+    ensures { λ t. ⌜ new column ≡ take count (old work) ++ drop count (old column) ⌝ }
 {
     let mut i = 0;
     while i < count {
@@ -111,9 +113,9 @@ fn copy_rows(
     qs: &[u32],
     count: usize,
 )
-    requires { ⌜ Holds (columns (now id) (now l) (now r) (now q)) count ⌝ }
-    requires { ⌜ Holds (columns (now ids) (now ls) (now rs) (now qs)) count ⌝ }
-    ensures { λ t. ⌜ columns (now (id .exit)) (now (l .exit)) (now (r .exit)) (now (q .exit)) ≡ put (rows (columns (now (ids .entry)) (now (ls .entry)) (now (rs .entry)) (now (qs .entry))) count) (columns (now (id .entry)) (now (l .entry)) (now (r .entry)) (now (q .entry))) ⌝ }
+    requires { ⌜ Holds (lentColumns id l r q) count ⌝ }
+    requires { ⌜ Holds (lentColumns ids ls rs qs) count ⌝ }
+    ensures { λ t. ⌜ newColumns id l r q ≡ put (rows (oldColumns ids ls rs qs) count) (oldColumns id l r q) ⌝ }
 {
     copy(id, ids, count);
     copy(l, ls, count);
@@ -131,11 +133,11 @@ fn draw_rows(
     r: &mut [u32],
     q: &mut [u32],
 ) -> Checked
-    requires { ⌜ Work (columns (now id) (now l) (now r) (now q)) ⌝ }
+    requires { ⌜ Work (lentColumns id l r q) ⌝ }
     requires { ⌜ 1 ≤ count ⌝ }
     requires { ⌜ count ≤ mostRows ⌝ }
-    ensures { λ t. ⌜ checkedSays t ≡ given (rowsToEnd count (now (bytes .entry)) at) ⌝ }
-    ensures { λ t. ⌜ ((s : List Row) → rowsToEnd count (now (bytes .entry)) at ≡ answer s → rows (columns (now (id .exit)) (now (l .exit)) (now (r .exit)) (now (q .exit))) count ≡ s) ⌝ }
+    ensures { λ t. ⌜ checkedSays t ≡ given (rowsToEnd count (old bytes) at) ⌝ }
+    ensures { λ t. ⌜ ((s : List Row) → rowsToEnd count (old bytes) at ≡ answer s → rows (newColumns id l r q) count ≡ s) ⌝ }
 {
     match rows_at(bytes, at, count, &mut *id, &mut *l, &mut *r, &mut *q) {
         Ended::Refused(why) => Checked::Refused(why),
@@ -162,12 +164,12 @@ fn read_through(
     at: usize,
     count: usize,
 ) -> Counted
-    requires { ⌜ Holds (columns (now id) (now l) (now r) (now q)) count ⌝ }
-    requires { ⌜ Work (columns (now ids) (now ls) (now rs) (now qs)) ⌝ }
+    requires { ⌜ Holds (lentColumns id l r q) count ⌝ }
+    requires { ⌜ Work (lentColumns ids ls rs qs) ⌝ }
     requires { ⌜ 1 ≤ count ⌝ }
     requires { ⌜ count ≤ mostRows ⌝ }
-    ensures { λ t. ⌜ countedSays t ≡ counted (rowsToEnd count (now (bytes .entry)) at) ⌝ }
-    ensures { λ t. ⌜ columns (now (id .exit)) (now (l .exit)) (now (r .exit)) (now (q .exit)) ≡ afterwards (rowsToEnd count (now (bytes .entry)) at) (columns (now (id .entry)) (now (l .entry)) (now (r .entry)) (now (q .entry))) ⌝ }
+    ensures { λ t. ⌜ countedSays t ≡ counted (rowsToEnd count (old bytes) at) ⌝ }
+    ensures { λ t. ⌜ newColumns id l r q ≡ afterwards (rowsToEnd count (old bytes) at) (oldColumns id l r q) ⌝ }
 {
     match draw_rows(bytes, at, count, &mut *ids, &mut *ls, &mut *rs, &mut *qs) {
         Checked::Refused(why) => Counted::Refused(why),
@@ -188,11 +190,11 @@ fn read_rows(
     at: usize,
     count: usize,
 ) -> Counted
-    requires { ⌜ Holds (columns (now id) (now l) (now r) (now q)) count ⌝ }
+    requires { ⌜ Holds (lentColumns id l r q) count ⌝ }
     requires { ⌜ 1 ≤ count ⌝ }
     requires { ⌜ count ≤ mostRows ⌝ }
-    ensures { λ t. ⌜ countedSays t ≡ counted (rowsToEnd count (now (bytes .entry)) at) ⌝ }
-    ensures { λ t. ⌜ columns (now (id .exit)) (now (l .exit)) (now (r .exit)) (now (q .exit)) ≡ afterwards (rowsToEnd count (now (bytes .entry)) at) (columns (now (id .entry)) (now (l .entry)) (now (r .entry)) (now (q .entry))) ⌝ }
+    ensures { λ t. ⌜ countedSays t ≡ counted (rowsToEnd count (old bytes) at) ⌝ }
+    ensures { λ t. ⌜ newColumns id l r q ≡ afterwards (rowsToEnd count (old bytes) at) (oldColumns id l r q) ⌝ }
 {
     let mut ids = [0u32; MOST_ROWS];
     let mut ls = [0u32; MOST_ROWS];
@@ -216,8 +218,8 @@ fn read_rows(
 // Reads a table in: 10 for lengths, the count, 10 for the count, the rows, 6 where bytes remain, then 11, 12, 13.
 // A refused read changes no column.
 pub fn read(id: &mut [u32], l: &mut [u32], r: &mut [u32], q: &mut [u32], bytes: &[u8]) -> Counted
-    ensures { λ t. ⌜ countedSays t ≡ counted (readRows (columns (now (id .entry)) (now (l .entry)) (now (r .entry)) (now (q .entry))) (now (bytes .entry))) ⌝ }
-    ensures { λ t. ⌜ columns (now (id .exit)) (now (l .exit)) (now (r .exit)) (now (q .exit)) ≡ afterwards (readRows (columns (now (id .entry)) (now (l .entry)) (now (r .entry)) (now (q .entry))) (now (bytes .entry))) (columns (now (id .entry)) (now (l .entry)) (now (r .entry)) (now (q .entry))) ⌝ }
+    ensures { λ t. ⌜ countedSays t ≡ counted (readRows (oldColumns id l r q) (old bytes)) ⌝ }
+    ensures { λ t. ⌜ newColumns id l r q ≡ afterwards (readRows (oldColumns id l r q) (old bytes)) (oldColumns id l r q) ⌝ }
 {
     if lengths_bad(&*id, &*l, &*r, &*q) {
         return Counted::Refused(Refusal::Columns);

@@ -5,10 +5,12 @@ ghost use lib.ListN.{length};
 ghost use Rattle.rules.specs.Buffers.{written, after};
 ghost use Rattle.rules.specs.Limits.{mostRows};
 ghost use Rattle.number.specs.Says.{writtenSays};
-ghost use Rattle.table.specs.Columns.{columns, rows};
+ghost use Rattle.table.specs.Columns.{rows};
 ghost use Rattle.table.specs.Held.{Holds};
 ghost use Rattle.table.specs.Check.{checked};
 ghost use Rattle.stored.specs.Stored.{rowBytes, rowsBytes, tableBytes, storeAnswer, storeBuffer};
+ghost use Rattle.rules.specs.Lent.{old, new};
+ghost use Rattle.table.specs.Lent.{oldColumns, lentColumns};
 use number::Written;
 use number::number_length;
 use number::write_number;
@@ -25,9 +27,9 @@ fn row_length(id: u32, l: u32, r: u32, q: u32) -> usize
 
 // How many bytes the rows have.
 fn rows_length(id: &[u32], l: &[u32], r: &[u32], q: &[u32], count: usize) -> usize
-    requires { ⌜ Holds (columns (now id) (now l) (now r) (now q)) count ⌝ }
+    requires { ⌜ Holds (lentColumns id l r q) count ⌝ }
     requires { ⌜ count ≤ mostRows ⌝ }
-    ensures { λ t. ⌜ t ≡ length (rowsBytes (rows (columns (now (id .entry)) (now (l .entry)) (now (r .entry)) (now (q .entry))) count)) ⌝ }
+    ensures { λ t. ⌜ t ≡ length (rowsBytes (rows (oldColumns id l r q) count)) ⌝ }
 {
     let mut sum = 0;
     let mut i = 0;
@@ -42,7 +44,7 @@ fn rows_length(id: &[u32], l: &[u32], r: &[u32], q: &[u32], count: usize) -> usi
 fn write_row(buffer: &mut [u8], at: usize, id: u32, l: u32, r: u32, q: u32) -> usize
     requires { ⌜ at + length (rowBytes (record { id = id; l = l; r = r; q = q })) ≤ length (now buffer) ⌝ }
     ensures { λ t. ⌜ t ≡ at + length (rowBytes (record { id = id; l = l; r = r; q = q })) ⌝ }
-    ensures { λ t. ⌜ now (buffer .exit) ≡ after (now (buffer .entry)) at (rowBytes (record { id = id; l = l; r = r; q = q })) ⌝ }
+    ensures { λ t. ⌜ new buffer ≡ after (old buffer) at (rowBytes (record { id = id; l = l; r = r; q = q })) ⌝ }
 {
     let l_at = at + number_length(id);
     let r_at = l_at + number_length(l);
@@ -64,9 +66,9 @@ fn write_rows(
     q: &[u32],
     count: usize,
 )
-    requires { ⌜ Holds (columns (now id) (now l) (now r) (now q)) count ⌝ }
-    requires { ⌜ at + length (rowsBytes (rows (columns (now id) (now l) (now r) (now q)) count)) ≤ length (now buffer) ⌝ }
-    ensures { λ t. ⌜ now (buffer .exit) ≡ after (now (buffer .entry)) at (rowsBytes (rows (columns (now (id .entry)) (now (l .entry)) (now (r .entry)) (now (q .entry))) count)) ⌝ }
+    requires { ⌜ Holds (lentColumns id l r q) count ⌝ }
+    requires { ⌜ at + length (rowsBytes (rows (lentColumns id l r q) count)) ≤ length (now buffer) ⌝ }
+    ensures { λ t. ⌜ new buffer ≡ after (old buffer) at (rowsBytes (rows (oldColumns id l r q) count)) ⌝ }
 {
     let mut p = at;
     let mut i = 0;
@@ -85,10 +87,10 @@ fn store_rows(
     count: usize,
     buffer: &mut [u8],
 ) -> Written
-    requires { ⌜ Holds (columns (now id) (now l) (now r) (now q)) count ⌝ }
+    requires { ⌜ Holds (lentColumns id l r q) count ⌝ }
     requires { ⌜ count ≤ mostRows ⌝ }
-    ensures { λ t. ⌜ writtenSays t ≡ written (now (buffer .entry)) 0 (tableBytes (rows (columns (now (id .entry)) (now (l .entry)) (now (r .entry)) (now (q .entry))) count)) ⌝ }
-    ensures { λ t. ⌜ now (buffer .exit) ≡ after (now (buffer .entry)) 0 (tableBytes (rows (columns (now (id .entry)) (now (l .entry)) (now (r .entry)) (now (q .entry))) count)) ⌝ }
+    ensures { λ t. ⌜ writtenSays t ≡ written (old buffer) 0 (tableBytes (rows (oldColumns id l r q) count)) ⌝ }
+    ensures { λ t. ⌜ new buffer ≡ after (old buffer) 0 (tableBytes (rows (oldColumns id l r q) count)) ⌝ }
 {
     let first = number_length(count as u32);
     let whole = first + rows_length(id, l, r, q, count);
@@ -109,8 +111,8 @@ pub fn store(
     count: usize,
     buffer: &mut [u8],
 ) -> Written
-    ensures { λ t. ⌜ writtenSays t ≡ storeAnswer (columns (now (id .entry)) (now (l .entry)) (now (r .entry)) (now (q .entry))) count (now (buffer .entry)) ⌝ }
-    ensures { λ t. ⌜ now (buffer .exit) ≡ storeBuffer (checked (columns (now (id .entry)) (now (l .entry)) (now (r .entry)) (now (q .entry))) count) (now (buffer .entry)) ⌝ }
+    ensures { λ t. ⌜ writtenSays t ≡ storeAnswer (oldColumns id l r q) count (old buffer) ⌝ }
+    ensures { λ t. ⌜ new buffer ≡ storeBuffer (checked (oldColumns id l r q) count) (old buffer) ⌝ }
 {
     match check_columns(id, l, r, q, count) {
         Checked::Refused(why) => Written::Refused(why),

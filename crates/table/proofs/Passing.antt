@@ -4,14 +4,14 @@ use mathlib.Core.Bool.{false}
 use mathlib.Core.List.{List}
 use Prim.Native.Nat.{ℕ, _≤_}
 use lib.ListN.{length}
-use Rattle.rules.specs.Answers.{Answer, answer, refused}
+use Rattle.rules.specs.Answers.{Answer, answer, refused, given}
 use Rattle.rules.specs.Refusals.{refusalNumber}
 use Rattle.rules.proofs.Answers.{same-answer, peel, then-answer, then-refused}
 use Rattle.rules.proofs.Bools.{or-none}
 use Rattle.table.specs.Columns.{Row, Columns, rows}
 use Rattle.table.specs.Check.{someRow, somePair, lengthsBad, valueBad, sameId, rangesMeet, soundRows, checked}
 use Rattle.table.specs.Held.{Holds}
-use Rattle.table.specs.Says.{checkedSays, given}
+use Rattle.table.specs.Says.{checkedSays}
 use Rattle.table.specs.declared.Checked.{Checked}
 use Rattle.table.specs.declared.Checked.the-variants as verdict
 use Rattle.table.proofs.Lengths.{Lengths, lengths-good, count-good, holds-count}

@@ -11,6 +11,16 @@ pub record Row : Type 0 where
   pub r : ℕ
   pub q : ℕ
 
+-- a group's box (document 01): where its l range and its r range begin, and its size
+abbrev pub lowL : Row → ℕ
+lowL w = w .l
+
+abbrev pub lowR : Row → ℕ
+lowR w = w .r
+
+abbrev pub sizeOf : Row → ℕ
+sizeOf w = w .q
+
 pub record Columns : Type 0 where
   pub id : List ℕ
   pub l : List ℕ

@@ -1,4 +1,5 @@
 pub mod Columns
+pub mod Lent
 pub mod Check
 pub mod Held
 pub mod Sound

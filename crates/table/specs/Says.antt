@@ -1,6 +1,6 @@
 -- The number and the values of document 01 for each case of the answers.
 use Prim.Native.Nat.{ℕ}
-use Rattle.rules.specs.Answers.{Answer, answer, refused, then}
+use Rattle.rules.specs.Answers.{Answer, answer, refused}
 use Rattle.rules.specs.Refusals.{refusalNumber}
 use Rattle.table.specs.Order.{Order, same, first, second, incomparable}
 use Rattle.table.specs.declared.Checked.{Checked}
@@ -9,10 +9,6 @@ use Rattle.table.specs.declared.Counted.{Counted}
 use Rattle.table.specs.declared.Counted.the-variants as counted
 use Rattle.table.specs.declared.Ordered.{Ordered}
 use Rattle.table.specs.declared.Ordered.the-variants as ordered
-
--- whether an answer was given, whatever it holds
-abbrev pub given : {A : Type 0} → Answer A → Answer (Unit {0})
-given a = then a λ _. answer tt
 
 abbrev pub checkedSays : Checked → Answer (Unit {0})
 checkedSays checked.Sound = answer tt

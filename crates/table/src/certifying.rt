@@ -5,10 +5,12 @@ ghost use mathlib.Core.Bool.{true, false};
 ghost use Prim.Native.Nat.{_≤_};
 ghost use lib.ListN.{length};
 ghost use Rattle.rules.specs.Limits.{mostRows};
-ghost use Rattle.table.specs.Columns.{columns, rows};
+ghost use Rattle.table.specs.Columns.{rows};
 ghost use Rattle.table.specs.Check.{someRow, valueBad};
 ghost use Rattle.table.specs.Held.{Holds};
 ghost use Rattle.table.specs.Certificate.{Placed, IdsInOrder, RangesInOrder, IdsSeparate, RangesSeparate, NoPair};
+ghost use Rattle.rules.specs.Lent.{old};
+ghost use Rattle.table.specs.Lent.{oldColumns, lentColumns};
 use crate::sorting::row_of;
 use crate::sorting::sort;
 use rules::MOST_ROWS;
@@ -32,7 +34,7 @@ fn find_places(keys: &[u64], count: usize, order: &mut [u32], place: &mut [u32])
 // Each row stands at its place.
 fn all_placed(order: &[u32], place: &[u32], count: usize) -> bool
     requires { ⌜ (count ≤ length (now order)) × (count ≤ length (now place)) ⌝ }
-    ensures { λ t. ⌜ (t ≡ true → Placed (now (order .entry)) (now (place .entry)) count) ⌝ }
+    ensures { λ t. ⌜ (t ≡ true → Placed (old order) (old place) count) ⌝ }
 {
     let mut i = 0;
     while i < count {
@@ -51,7 +53,7 @@ fn all_placed(order: &[u32], place: &[u32], count: usize) -> bool
 // Each id is above the one before it.
 fn ids_in_order(id: &[u32], order: &[u32], count: usize) -> bool
     requires { ⌜ (count ≤ length (now id)) × (count ≤ length (now order)) ⌝ }
-    ensures { λ t. ⌜ (t ≡ true → IdsInOrder (now (id .entry)) (now (order .entry)) count) ⌝ }
+    ensures { λ t. ⌜ (t ≡ true → IdsInOrder (old id) (old order) count) ⌝ }
 {
     let mut past = 0;
     let mut k = 0;
@@ -73,7 +75,7 @@ fn ids_in_order(id: &[u32], order: &[u32], count: usize) -> bool
 // Each range begins past the one before it.
 fn ranges_in_order(start: &[u32], size: &[u32], order: &[u32], count: usize) -> bool
     requires { ⌜ (count ≤ length (now start)) × (count ≤ length (now size)) × (count ≤ length (now order)) ⌝ }
-    ensures { λ t. ⌜ (t ≡ true → RangesInOrder (now (start .entry)) (now (size .entry)) (now (order .entry)) count) ⌝ }
+    ensures { λ t. ⌜ (t ≡ true → RangesInOrder (old start) (old size) (old order) count) ⌝ }
 {
     let mut past = 0;
     let mut k = 0;
@@ -104,7 +106,7 @@ fn order_rows(column: &[u32], count: usize, order: &mut [u32], place: &mut [u32]
 
 fn ids_separate(id: &[u32], count: usize) -> bool
     requires { ⌜ (count ≤ length (now id)) × (count ≤ mostRows) ⌝ }
-    ensures { λ t. ⌜ (t ≡ true → IdsSeparate (now (id .entry)) count) ⌝ }
+    ensures { λ t. ⌜ (t ≡ true → IdsSeparate (old id) count) ⌝ }
 {
     let mut order = [0u32; MOST_ROWS];
     let mut place = [0u32; MOST_ROWS];
@@ -117,7 +119,7 @@ fn ids_separate(id: &[u32], count: usize) -> bool
 
 fn ranges_separate(start: &[u32], size: &[u32], count: usize) -> bool
     requires { ⌜ (count ≤ length (now start)) × (count ≤ length (now size)) × (count ≤ mostRows) ⌝ }
-    ensures { λ t. ⌜ (t ≡ true → RangesSeparate (now (start .entry)) (now (size .entry)) count) ⌝ }
+    ensures { λ t. ⌜ (t ≡ true → RangesSeparate (old start) (old size) count) ⌝ }
 {
     let mut order = [0u32; MOST_ROWS];
     let mut place = [0u32; MOST_ROWS];
@@ -130,9 +132,9 @@ fn ranges_separate(start: &[u32], size: &[u32], count: usize) -> bool
 
 // True only where no two rows have one id and no ranges of two rows meet; false says nothing.
 pub(crate) fn no_pair(id: &[u32], l: &[u32], r: &[u32], q: &[u32], count: usize) -> bool
-    requires { ⌜ Holds (columns (now id) (now l) (now r) (now q)) count ⌝ }
-    requires { ⌜ someRow valueBad (rows (columns (now id) (now l) (now r) (now q)) count) ≡ false ⌝ }
-    ensures { λ t. ⌜ (t ≡ true → NoPair (rows (columns (now (id .entry)) (now (l .entry)) (now (r .entry)) (now (q .entry))) count)) ⌝ }
+    requires { ⌜ Holds (lentColumns id l r q) count ⌝ }
+    requires { ⌜ someRow valueBad (rows (lentColumns id l r q) count) ≡ false ⌝ }
+    ensures { λ t. ⌜ (t ≡ true → NoPair (rows (oldColumns id l r q) count)) ⌝ }
 {
     if count < MANY_ROWS {
         return false;

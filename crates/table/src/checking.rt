@@ -1,10 +1,12 @@
 // The check of the columns: 10, then 11 over all rows, 12 over all pairs, 13 over all pairs.
 ghost use mathlib.Core.Path.{_≡_};
 ghost use Prim.Native.Nat.{_+_};
-ghost use Rattle.table.specs.Columns.{columns, rowAt, rows};
+ghost use Rattle.table.specs.Columns.{rowAt, rows};
 ghost use Rattle.table.specs.Check.{someRow, somePair, lengthsBad, countBad, valueBad, sameId, rangesMeet, soundRows, checked};
-ghost use Rattle.table.specs.Says.{checkedSays, given};
+ghost use Rattle.table.specs.Says.{checkedSays};
+ghost use Rattle.rules.specs.Answers.{given};
 ghost use Rattle.table.specs.Held.{Holds};
+ghost use Rattle.table.specs.Lent.{oldColumns, lentColumns};
 use crate::Checked;
 use crate::certifying::no_pair;
 use boxes::Box;
@@ -14,7 +16,7 @@ use rules::Refusal;
 
 // 10: lengths differ or not 1 to 256.
 pub fn lengths_bad(id: &[u32], l: &[u32], r: &[u32], q: &[u32]) -> bool
-    ensures { λ t. ⌜ t ≡ lengthsBad (columns (now (id .entry)) (now (l .entry)) (now (r .entry)) (now (q .entry))) ⌝ }
+    ensures { λ t. ⌜ t ≡ lengthsBad (oldColumns id l r q) ⌝ }
 {
     let n = id.len();
     if l.len() != n {
@@ -72,8 +74,8 @@ fn value_bad(id: u32, l: u32, r: u32, q: u32) -> bool
 }
 
 fn some_value_bad(id: &[u32], l: &[u32], r: &[u32], q: &[u32], count: usize) -> bool
-    requires { ⌜ Holds (columns (now id) (now l) (now r) (now q)) count ⌝ }
-    ensures { λ t. ⌜ t ≡ someRow valueBad (rows (columns (now (id .entry)) (now (l .entry)) (now (r .entry)) (now (q .entry))) count) ⌝ }
+    requires { ⌜ Holds (lentColumns id l r q) count ⌝ }
+    ensures { λ t. ⌜ t ≡ someRow valueBad (rows (oldColumns id l r q) count) ⌝ }
 {
     let mut i = 0;
     while i < count {
@@ -87,8 +89,8 @@ fn some_value_bad(id: &[u32], l: &[u32], r: &[u32], q: &[u32], count: usize) -> 
 
 // 12: a row above row i has its id.
 fn id_above(id: &[u32], l: &[u32], r: &[u32], q: &[u32], i: usize) -> bool
-    requires { ⌜ Holds (columns (now id) (now l) (now r) (now q)) (i + 1) ⌝ }
-    ensures { λ t. ⌜ t ≡ someRow (λ w. sameId w (rowAt (columns (now (id .entry)) (now (l .entry)) (now (r .entry)) (now (q .entry))) i)) (rows (columns (now (id .entry)) (now (l .entry)) (now (r .entry)) (now (q .entry))) i) ⌝ }
+    requires { ⌜ Holds (lentColumns id l r q) (i + 1) ⌝ }
+    ensures { λ t. ⌜ t ≡ someRow (λ w. sameId w (rowAt (oldColumns id l r q) i)) (rows (oldColumns id l r q) i) ⌝ }
 {
     let own = id[i];
     let mut j = 0;
@@ -102,8 +104,8 @@ fn id_above(id: &[u32], l: &[u32], r: &[u32], q: &[u32], i: usize) -> bool
 }
 
 fn some_ids_same(id: &[u32], l: &[u32], r: &[u32], q: &[u32], count: usize) -> bool
-    requires { ⌜ Holds (columns (now id) (now l) (now r) (now q)) count ⌝ }
-    ensures { λ t. ⌜ t ≡ somePair sameId (rows (columns (now (id .entry)) (now (l .entry)) (now (r .entry)) (now (q .entry))) count) ⌝ }
+    requires { ⌜ Holds (lentColumns id l r q) count ⌝ }
+    ensures { λ t. ⌜ t ≡ somePair sameId (rows (oldColumns id l r q) count) ⌝ }
 {
     let mut i = 0;
     while i < count {
@@ -117,8 +119,8 @@ fn some_ids_same(id: &[u32], l: &[u32], r: &[u32], q: &[u32], count: usize) -> b
 
 // 13: the ranges of row i meet those of a row above it.
 fn box_above(id: &[u32], l: &[u32], r: &[u32], q: &[u32], i: usize) -> bool
-    requires { ⌜ Holds (columns (now id) (now l) (now r) (now q)) (i + 1) ⌝ }
-    ensures { λ t. ⌜ t ≡ someRow (λ w. rangesMeet w (rowAt (columns (now (id .entry)) (now (l .entry)) (now (r .entry)) (now (q .entry))) i)) (rows (columns (now (id .entry)) (now (l .entry)) (now (r .entry)) (now (q .entry))) i) ⌝ }
+    requires { ⌜ Holds (lentColumns id l r q) (i + 1) ⌝ }
+    ensures { λ t. ⌜ t ≡ someRow (λ w. rangesMeet w (rowAt (oldColumns id l r q) i)) (rows (oldColumns id l r q) i) ⌝ }
 {
     let own = Box::new(l[i], r[i], q[i]);
     let mut j = 0;
@@ -132,8 +134,8 @@ fn box_above(id: &[u32], l: &[u32], r: &[u32], q: &[u32], i: usize) -> bool
 }
 
 fn some_ranges_meet(id: &[u32], l: &[u32], r: &[u32], q: &[u32], count: usize) -> bool
-    requires { ⌜ Holds (columns (now id) (now l) (now r) (now q)) count ⌝ }
-    ensures { λ t. ⌜ t ≡ somePair rangesMeet (rows (columns (now (id .entry)) (now (l .entry)) (now (r .entry)) (now (q .entry))) count) ⌝ }
+    requires { ⌜ Holds (lentColumns id l r q) count ⌝ }
+    ensures { λ t. ⌜ t ≡ somePair rangesMeet (rows (oldColumns id l r q) count) ⌝ }
 {
     let mut i = 0;
     while i < count {
@@ -147,8 +149,8 @@ fn some_ranges_meet(id: &[u32], l: &[u32], r: &[u32], q: &[u32], count: usize) -
 
 // 11, 12 and 13 of rows that the columns hold.
 fn check_rows(id: &[u32], l: &[u32], r: &[u32], q: &[u32], count: usize) -> Checked
-    requires { ⌜ Holds (columns (now id) (now l) (now r) (now q)) count ⌝ }
-    ensures { λ t. ⌜ checkedSays t ≡ given (soundRows (rows (columns (now (id .entry)) (now (l .entry)) (now (r .entry)) (now (q .entry))) count)) ⌝ }
+    requires { ⌜ Holds (lentColumns id l r q) count ⌝ }
+    ensures { λ t. ⌜ checkedSays t ≡ given (soundRows (rows (oldColumns id l r q) count)) ⌝ }
 {
     if some_value_bad(id, l, r, q, count) {
         return Checked::Refused(Refusal::RowValue);
@@ -167,7 +169,7 @@ fn check_rows(id: &[u32], l: &[u32], r: &[u32], q: &[u32], count: usize) -> Chec
 
 // Whether the columns hold a sound table of `count` rows: 10, 11, 12, 13.
 pub fn check_columns(id: &[u32], l: &[u32], r: &[u32], q: &[u32], count: usize) -> Checked
-    ensures { λ t. ⌜ checkedSays t ≡ given (checked (columns (now (id .entry)) (now (l .entry)) (now (r .entry)) (now (q .entry))) count) ⌝ }
+    ensures { λ t. ⌜ checkedSays t ≡ given (checked (oldColumns id l r q) count) ⌝ }
 {
     if lengths_bad(id, l, r, q) {
         return Checked::Refused(Refusal::Columns);

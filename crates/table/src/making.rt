@@ -1,8 +1,9 @@
 // A fresh table: one group that has the whole quota.
 ghost use mathlib.Core.Path.{_≡_};
-ghost use Rattle.table.specs.Columns.{columns, counted, afterwards};
+ghost use Rattle.table.specs.Columns.{counted, afterwards};
 ghost use Rattle.table.specs.Fresh.{freshRows};
 ghost use Rattle.table.specs.Says.{countedSays};
+ghost use Rattle.table.specs.Lent.{oldColumns, newColumns};
 use crate::Counted;
 use crate::checking::lengths_bad;
 use rules::Refusal;
@@ -16,8 +17,8 @@ pub fn fresh(
     group: u32,
     quota: u32,
 ) -> Counted
-    ensures { λ t. ⌜ countedSays t ≡ counted (freshRows (columns (now (id .entry)) (now (l .entry)) (now (r .entry)) (now (q .entry))) group quota) ⌝ }
-    ensures { λ t. ⌜ columns (now (id .exit)) (now (l .exit)) (now (r .exit)) (now (q .exit)) ≡ afterwards (freshRows (columns (now (id .entry)) (now (l .entry)) (now (r .entry)) (now (q .entry))) group quota) (columns (now (id .entry)) (now (l .entry)) (now (r .entry)) (now (q .entry))) ⌝ }
+    ensures { λ t. ⌜ countedSays t ≡ counted (freshRows (oldColumns id l r q) group quota) ⌝ }
+    ensures { λ t. ⌜ newColumns id l r q ≡ afterwards (freshRows (oldColumns id l r q) group quota) (oldColumns id l r q) ⌝ }
 {
     if lengths_bad(&*id, &*l, &*r, &*q) {
         return Counted::Refused(Refusal::Columns);

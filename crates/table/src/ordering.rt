@@ -1,12 +1,13 @@
 // The order of two groups of a table.
 ghost use mathlib.Core.Path.{_≡_};
 ghost use Rattle.rules.specs.Answers.{answer};
-ghost use Rattle.table.specs.Columns.{columns, rows};
+ghost use Rattle.table.specs.Columns.{rows};
 ghost use Rattle.table.specs.Held.{Holds};
 ghost use Rattle.table.specs.Order.{orderIn, orderBy, subgroup};
 ghost use Rattle.table.specs.Order.{order as tableOrder};
 ghost use Rattle.table.specs.Found.{FoundAt};
 ghost use Rattle.table.specs.Says.{orderedSays};
+ghost use Rattle.table.specs.Lent.{oldColumns, lentColumns};
 use crate::Checked;
 use crate::Ordered;
 use crate::checking::check_columns;
@@ -16,8 +17,8 @@ use rules::Refusal;
 
 // The row of a group, or `count` where there is none.
 pub(crate) fn find(id: &[u32], l: &[u32], r: &[u32], q: &[u32], count: usize, group: u32) -> usize
-    requires { ⌜ Holds (columns (now id) (now l) (now r) (now q)) count ⌝ }
-    ensures { λ i. ⌜ FoundAt (columns (now (id .entry)) (now (l .entry)) (now (r .entry)) (now (q .entry))) count group i ⌝ }
+    requires { ⌜ Holds (lentColumns id l r q) count ⌝ }
+    ensures { λ i. ⌜ FoundAt (oldColumns id l r q) count group i ⌝ }
 {
     let mut i = 0;
     while i < count {
@@ -56,8 +57,8 @@ fn compare(same_id: bool, first_below: bool, second_below: bool) -> Ordered
 }
 
 fn order_in(id: &[u32], l: &[u32], r: &[u32], q: &[u32], count: usize, a: u32, b: u32) -> Ordered
-    requires { ⌜ Holds (columns (now id) (now l) (now r) (now q)) count ⌝ }
-    ensures { λ t. ⌜ orderedSays t ≡ orderIn (rows (columns (now (id .entry)) (now (l .entry)) (now (r .entry)) (now (q .entry))) count) a b ⌝ }
+    requires { ⌜ Holds (lentColumns id l r q) count ⌝ }
+    ensures { λ t. ⌜ orderedSays t ≡ orderIn (rows (oldColumns id l r q) count) a b ⌝ }
 {
     let i = find(id, l, r, q, count, a);
     if i == count {
@@ -80,7 +81,7 @@ fn order_in(id: &[u32], l: &[u32], r: &[u32], q: &[u32], count: usize, a: u32, b
 
 // The order of two groups: 10 to 13, then 20 for either id.
 pub fn order(id: &[u32], l: &[u32], r: &[u32], q: &[u32], count: usize, a: u32, b: u32) -> Ordered
-    ensures { λ t. ⌜ orderedSays t ≡ tableOrder (columns (now (id .entry)) (now (l .entry)) (now (r .entry)) (now (q .entry))) count a b ⌝ }
+    ensures { λ t. ⌜ orderedSays t ≡ tableOrder (oldColumns id l r q) count a b ⌝ }
 {
     match check_columns(id, l, r, q, count) {
         Checked::Refused(why) => Ordered::Refused(why),

@@ -4,6 +4,7 @@ ghost use lib.ListN.{length};
 ghost use Rattle.rules.specs.Buffers.{written, after};
 ghost use Rattle.number.specs.Says.{writtenSays};
 ghost use Rattle.text.specs.Decimal.{decimal};
+ghost use Rattle.rules.specs.Lent.{old, new};
 use number::Written;
 use rules::Refusal;
 
@@ -22,8 +23,8 @@ pub fn decimal_length(n: u32) -> usize
 
 // Writes a number's digits from a position on: 30, and none of them, where the buffer is too short.
 pub fn write_decimal(buffer: &mut [u8], at: usize, n: u32) -> Written
-    ensures { λ r. ⌜ writtenSays r ≡ written (now (buffer .entry)) at (decimal n) ⌝ }
-    ensures { λ r. ⌜ now (buffer .exit) ≡ after (now (buffer .entry)) at (decimal n) ⌝ }
+    ensures { λ r. ⌜ writtenSays r ≡ written (old buffer) at (decimal n) ⌝ }
+    ensures { λ r. ⌜ new buffer ≡ after (old buffer) at (decimal n) ⌝ }
 {
     let count = decimal_length(n);
     if buffer.len() < at {
@@ -45,8 +46,8 @@ pub fn write_decimal(buffer: &mut [u8], at: usize, n: u32) -> Written
 
 // Writes given bytes from a position on: 30, and none of them, where the buffer is too short.
 pub fn write_bytes(buffer: &mut [u8], at: usize, bytes: &[u8]) -> Written
-    ensures { λ r. ⌜ writtenSays r ≡ written (now (buffer .entry)) at (now (bytes .entry)) ⌝ }
-    ensures { λ r. ⌜ now (buffer .exit) ≡ after (now (buffer .entry)) at (now (bytes .entry)) ⌝ }
+    ensures { λ r. ⌜ writtenSays r ≡ written (old buffer) at (old bytes) ⌝ }
+    ensures { λ r. ⌜ new buffer ≡ after (old buffer) at (old bytes) ⌝ }
 {
     if buffer.len() < at {
         return Written::Refused(Refusal::BufferShort);

@@ -3,7 +3,7 @@
 mod codes;
 
 ghost use mathlib.Core.Path.{_≡_};
-ghost use Rattle.table.specs.Columns.{columns, counted, afterwards};
+ghost use Rattle.table.specs.Columns.{counted, afterwards};
 ghost use Rattle.table.specs.Check.{checked};
 ghost use Rattle.table.specs.Fresh.{freshRows};
 ghost use Rattle.table.specs.Order.{order as tableOrder};
@@ -11,6 +11,8 @@ ghost use Rattle.refine.specs.Refine.{refined};
 ghost use Rattle.grant.specs.Decision.{decided};
 ghost use Rattle.stored.specs.Stored.{storeAnswer, storeBuffer, readRows};
 ghost use Rattle.zintukor.specs.Codes.{countCode, orderCode, decisionCode};
+ghost use Rattle.rules.specs.Lent.{old, new};
+ghost use Rattle.table.specs.Lent.{oldColumns, newColumns};
 use codes::count_code;
 use codes::decision_code;
 use codes::order_code;
@@ -32,8 +34,8 @@ pub extern "C" fn zintukor_fresh(
     group: u32,
     quota: u32,
 ) -> u64
-    ensures { λ t. ⌜ t ≡ countCode (counted (freshRows (columns (now (id .entry)) (now (l .entry)) (now (r .entry)) (now (q .entry))) group quota)) ⌝ }
-    ensures { λ t. ⌜ columns (now (id .exit)) (now (l .exit)) (now (r .exit)) (now (q .exit)) ≡ afterwards (freshRows (columns (now (id .entry)) (now (l .entry)) (now (r .entry)) (now (q .entry))) group quota) (columns (now (id .entry)) (now (l .entry)) (now (r .entry)) (now (q .entry))) ⌝ }
+    ensures { λ t. ⌜ t ≡ countCode (counted (freshRows (oldColumns id l r q) group quota)) ⌝ }
+    ensures { λ t. ⌜ newColumns id l r q ≡ afterwards (freshRows (oldColumns id l r q) group quota) (oldColumns id l r q) ⌝ }
 {
     count_code(fresh(id, l, r, q, group, quota))
 }
@@ -48,8 +50,8 @@ pub extern "C" fn zintukor_refine(
     count: usize,
     request: &[u8],
 ) -> u64
-    ensures { λ t. ⌜ t ≡ countCode (counted (refined (columns (now (id .entry)) (now (l .entry)) (now (r .entry)) (now (q .entry))) count (now (request .entry)))) ⌝ }
-    ensures { λ t. ⌜ columns (now (id .exit)) (now (l .exit)) (now (r .exit)) (now (q .exit)) ≡ afterwards (refined (columns (now (id .entry)) (now (l .entry)) (now (r .entry)) (now (q .entry))) count (now (request .entry))) (columns (now (id .entry)) (now (l .entry)) (now (r .entry)) (now (q .entry))) ⌝ }
+    ensures { λ t. ⌜ t ≡ countCode (counted (refined (oldColumns id l r q) count (old request))) ⌝ }
+    ensures { λ t. ⌜ newColumns id l r q ≡ afterwards (refined (oldColumns id l r q) count (old request)) (oldColumns id l r q) ⌝ }
 {
     count_code(refine(id, l, r, q, count, request))
 }
@@ -65,7 +67,7 @@ pub extern "C" fn zintukor_order(
     first: u32,
     second: u32,
 ) -> u64
-    ensures { λ t. ⌜ t ≡ orderCode (tableOrder (columns (now (id .entry)) (now (l .entry)) (now (r .entry)) (now (q .entry))) count first second) ⌝ }
+    ensures { λ t. ⌜ t ≡ orderCode (tableOrder (oldColumns id l r q) count first second) ⌝ }
 {
     order_code(order(id, l, r, q, count, first, second))
 }
@@ -73,7 +75,7 @@ pub extern "C" fn zintukor_order(
 // The decision on a feature for a pass (l, r) and a day.
 #[no_mangle]
 pub extern "C" fn zintukor_decide(feature: u32, l: u32, r: u32, day: u32, grants: &[u8]) -> u64
-    ensures { λ t. ⌜ t ≡ decisionCode (decided feature l r day (now (grants .entry))) ⌝ }
+    ensures { λ t. ⌜ t ≡ decisionCode (decided feature l r day (old grants)) ⌝ }
 {
     decision_code(decide(feature, l, r, day, grants))
 }
@@ -88,8 +90,8 @@ pub extern "C" fn zintukor_store(
     count: usize,
     buffer: &mut [u8],
 ) -> u64
-    ensures { λ t. ⌜ t ≡ countCode (storeAnswer (columns (now (id .entry)) (now (l .entry)) (now (r .entry)) (now (q .entry))) count (now (buffer .entry))) ⌝ }
-    ensures { λ t. ⌜ now (buffer .exit) ≡ storeBuffer (checked (columns (now (id .entry)) (now (l .entry)) (now (r .entry)) (now (q .entry))) count) (now (buffer .entry)) ⌝ }
+    ensures { λ t. ⌜ t ≡ countCode (storeAnswer (oldColumns id l r q) count (old buffer)) ⌝ }
+    ensures { λ t. ⌜ new buffer ≡ storeBuffer (checked (oldColumns id l r q) count) (old buffer) ⌝ }
 {
     written_code(store(id, l, r, q, count, buffer))
 }
@@ -103,8 +105,8 @@ pub extern "C" fn zintukor_read(
     q: &mut [u32],
     bytes: &[u8],
 ) -> u64
-    ensures { λ t. ⌜ t ≡ countCode (counted (readRows (columns (now (id .entry)) (now (l .entry)) (now (r .entry)) (now (q .entry))) (now (bytes .entry)))) ⌝ }
-    ensures { λ t. ⌜ columns (now (id .exit)) (now (l .exit)) (now (r .exit)) (now (q .exit)) ≡ afterwards (readRows (columns (now (id .entry)) (now (l .entry)) (now (r .entry)) (now (q .entry))) (now (bytes .entry))) (columns (now (id .entry)) (now (l .entry)) (now (r .entry)) (now (q .entry))) ⌝ }
+    ensures { λ t. ⌜ t ≡ countCode (counted (readRows (oldColumns id l r q) (old bytes))) ⌝ }
+    ensures { λ t. ⌜ newColumns id l r q ≡ afterwards (readRows (oldColumns id l r q) (old bytes)) (oldColumns id l r q) ⌝ }
 {
     count_code(read(id, l, r, q, bytes))
 }

@@ -7,12 +7,6 @@ use borrow.Author.Needs.{needs}
 use Rattle.grant.proofs.count_if_applies.Statement.{statement}
 use Rattle.grant.proofs.count_if_applies.Tie as tie
 
-covered-requires : tie.Need-covered-requires
-covered-requires c κs = search needs
-
-count-in-requires : tie.Need-count-in-requires
-count-in-requires c κs = search needs
-
 returns : tie.Need-returns
 unfolding countIfApplies appliesTo
 returns c = rw (eq-eqb _ _ (c .before .before .before .if1 .taken), sym (c .before .before .covered .ensures) ∙ c .before .if2 .taken) (c .count-in .ensures)
@@ -26,4 +20,10 @@ unfolding countIfApplies appliesTo
 returns-3 c = rw (ne-eqb _ _ (c .if1 .left))
 
 pub count-if-applies-spec : {M : Type 1} → statement M
-count-if-applies-spec = tie.close (tie.spec covered-requires count-in-requires returns returns-2 returns-3)
+count-if-applies-spec =
+    tie.close
+    (tie.spec
+    (λ c κs. search needs) (λ c κs. search needs)
+    returns
+    returns-2
+    returns-3)

@@ -7,9 +7,6 @@ use borrow.Author.Needs.{needs}
 use Rattle.grant.proofs.count_in.Statement.{statement}
 use Rattle.grant.proofs.count_in.Tie as tie
 
-lesser-requires : tie.Need-lesser-requires
-lesser-requires c κs = search needs
-
 returns : tie.Need-returns
 unfolding countIn
 returns c = rw (lt-ltb _ _ (c .before .if1 .taken)) (same-tally refl refl refl (c .lesser .ensures))
@@ -18,15 +15,9 @@ returns-2 : tie.Need-returns-2
 unfolding countIn
 returns-2 c = rw (le-ltb _ _ (c .before .if1 .left), eq-eqb _ _ (c .if2 .taken))
 
-greater-requires : tie.Need-greater-requires
-greater-requires c κs = search needs
-
 returns-3 : tie.Need-returns-3
 unfolding countIn
 returns-3 c = rw (le-ltb _ _ (c .before .before .before .if1 .left), ne-eqb _ _ (c .before .before .if2 .left), lt-ltb _ _ (c .before .if3 .taken)) (same-tally refl refl (c .greater .ensures) refl)
-
-greater-requires-2 : tie.Need-greater-requires-2
-greater-requires-2 c κs = search needs
 
 returns-4 : tie.Need-returns-4
 unfolding countIn
@@ -36,10 +27,10 @@ pub count-in-spec : {M : Type 1} → statement M
 count-in-spec =
     tie.close
     (tie.spec
-    lesser-requires
+    (λ c κs. search needs)
     returns
     returns-2
-    greater-requires
+    (λ c κs. search needs)
     returns-3
-    greater-requires-2
+    (λ c κs. search needs)
     returns-4)

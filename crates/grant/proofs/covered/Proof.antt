@@ -4,17 +4,10 @@ use borrow.Author.Needs.{needs}
 use Rattle.grant.proofs.covered.Statement.{statement}
 use Rattle.grant.proofs.covered.Tie as tie
 
-at-most-requires : tie.Need-at-most-requires
-at-most-requires c κs = search needs
-
-at-most-requires-2 : tie.Need-at-most-requires-2
-at-most-requires-2 c κs = search needs
-
-returns : tie.Need-returns
-returns c = rw (sym (c .before .before .at-most .ensures) ∙ c .before .if1 .taken) (c .at-most2 .ensures)
-
-returns-2 : tie.Need-returns-2
-returns-2 c = rw (sym (c .before .at-most .ensures) ∙ c .if1 .left)
-
 pub covered-spec : {M : Type 1} → statement M
-covered-spec = tie.close (tie.spec at-most-requires at-most-requires-2 returns returns-2)
+covered-spec =
+    tie.close
+    (tie.spec
+    (λ c κs. search needs) (λ c κs. search needs)
+    (λ c. rw (sym (c .before .before .at-most .ensures) ∙ c .before .if1 .taken) (c .at-most2 .ensures))
+    (λ c. rw (sym (c .before .at-most .ensures) ∙ c .if1 .left)))

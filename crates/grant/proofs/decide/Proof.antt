@@ -38,23 +38,8 @@ loop-holds : tie.Need-loop-holds Inv-loop μ-loop
 unfolding questionBad
 loop-holds c = (omega arith, outcome-decided _ _ _ _ _ (rw (ne-eqb _ _ (c .before .before .before .if1 .left), ne-eqb _ _ (c .before .before .if2 .left), ne-eqb _ _ (c .before .if3 .left), ne-eqb _ _ (c .if4 .left))))
 
-grant-at-requires : tie.Need-grant-at-requires Inv-loop μ-loop
-grant-at-requires c κs = search needs
-
-enum-known-why : tie.Need-enum-known-why Inv-loop μ-loop
-enum-known-why c = search needs
-
 returns-5 : tie.Need-returns-5 Inv-loop μ-loop
 returns-5 c = sym (outcome-refused _ _ _ _ _ (c .before .before .before .before .before .loop .at) (c .before .before .before .before .before .loop .t) (c .before .before .before .before .loop-test .taken) (sym (c .before .before .before .grant-at .ensures) ∙ ap grantSays (c .before .why .given .1))) ∙ c .before .before .before .before .before .loop .inv .1
-
-enum-known-of : tie.Need-enum-known-of Inv-loop μ-loop
-enum-known-of c = search needs
-
-count-if-applies-requires : tie.Need-count-if-applies-requires Inv-loop μ-loop
-count-if-applies-requires c κs = search needs
-
-loop-less : tie.Need-loop-less Inv-loop μ-loop
-loop-less c = let s = grant-stands _ _ (sym (c .before .before .before .before .grant-at .ensures) ∙ ap grantSays (c .before .before .of .given .1)) in omega (arith, s .starts, s .ends)
 
 loop-again : tie.Need-loop-again Inv-loop μ-loop
 loop-again c =
@@ -62,12 +47,6 @@ loop-again c =
       grant-stands _ _ e .ends,
       rw (c .count-if-applies .ensures) (sym (outcome-more _ _ _ _ _ (c .before .before .before .before .before .before .loop .at) (c .before .before .before .before .before .before .loop .t) (c .before .before .before .before .before .loop-test .taken) e) ∙ c .before .before .before .before .before .before .loop .inv .1),
     )
-
-decision-of-requires : tie.Need-decision-of-requires Inv-loop μ-loop
-decision-of-requires c κs = search needs
-
-returns-6 : tie.Need-returns-6 Inv-loop μ-loop
-returns-6 c = c .decision-of .ensures ∙ sym (outcome-ends _ _ _ _ _ (c .before .before .loop .at) (c .before .before .loop .t) (c .before .loop-test .left)) ∙ c .before .before .loop .inv .1
 
 pub decide-spec : {M : Type 1} → statement M
 decide-spec =
@@ -80,12 +59,10 @@ decide-spec =
     returns-3
     returns-4
     loop-holds
-    grant-at-requires
-    enum-known-why
+    (λ c κs. search needs) (λ c. search needs)
     returns-5
-    enum-known-of
-    count-if-applies-requires
-    loop-less
+    (λ c. search needs) (λ c κs. search needs)
+    (λ c. let s = grant-stands _ _ (sym (c .before .before .before .before .grant-at .ensures) ∙ ap grantSays (c .before .before .of .given .1)) in omega (arith, s .starts, s .ends))
     loop-again
-    decision-of-requires
-    returns-6)
+    (λ c κs. search needs)
+    (λ c. c .decision-of .ensures ∙ sym (outcome-ends _ _ _ _ _ (c .before .before .loop .at) (c .before .before .loop .t) (c .before .loop-test .left)) ∙ c .before .before .loop .inv .1))

@@ -6,54 +6,6 @@ use borrow.Author.Needs.{needs}
 use Rattle.grant.proofs.grant_at.Statement.{statement}
 use Rattle.grant.proofs.grant_at.Tie as tie
 
-number-at-requires : tie.Need-number-at-requires
-number-at-requires c κs = search needs
-
-enum-known-why : tie.Need-enum-known-why
-enum-known-why c = search needs
-
-enum-known-feature : tie.Need-enum-known-feature
-enum-known-feature c = search needs
-
-number-at-requires-2 : tie.Need-number-at-requires-2
-number-at-requires-2 c κs = search needs
-
-enum-known-why-2 : tie.Need-enum-known-why-2
-enum-known-why-2 c = search needs
-
-enum-known-l : tie.Need-enum-known-l
-enum-known-l c = search needs
-
-number-at-requires-3 : tie.Need-number-at-requires-3
-number-at-requires-3 c κs = search needs
-
-enum-known-why-3 : tie.Need-enum-known-why-3
-enum-known-why-3 c = search needs
-
-enum-known-r : tie.Need-enum-known-r
-enum-known-r c = search needs
-
-number-at-requires-4 : tie.Need-number-at-requires-4
-number-at-requires-4 c κs = search needs
-
-enum-known-why-4 : tie.Need-enum-known-why-4
-enum-known-why-4 c = search needs
-
-enum-known-first : tie.Need-enum-known-first
-enum-known-first c = search needs
-
-number-at-requires-5 : tie.Need-number-at-requires-5
-number-at-requires-5 c κs = search needs
-
-enum-known-why-5 : tie.Need-enum-known-why-5
-enum-known-why-5 c = search needs
-
-enum-known-last : tie.Need-enum-known-last
-enum-known-last c = search needs
-
-checked-grant-requires : tie.Need-checked-grant-requires
-checked-grant-requires c κs = search needs
-
 returns : tie.Need-returns
 unfolding grantAt
 returns c = rw (sym (c .before .before .before .number-at .ensures) ∙ ap drawnSays (c .before .why .given .1))
@@ -127,22 +79,9 @@ pub grant-at-spec : {M : Type 1} → statement M
 grant-at-spec =
     tie.close
     (tie.spec
-    number-at-requires
-    enum-known-why
-    enum-known-feature
-    number-at-requires-2
-    enum-known-why-2
-    enum-known-l
-    number-at-requires-3
-    enum-known-why-3
-    enum-known-r
-    number-at-requires-4
-    enum-known-why-4
-    enum-known-first
-    number-at-requires-5
-    enum-known-why-5
-    enum-known-last
-    checked-grant-requires
+    (λ c κs. search needs) (λ c. search needs) (λ c. search needs) (λ c κs. search needs) (λ c. search needs) (λ c. search needs) (λ c κs. search needs)
+    (λ c. search needs) (λ c. search needs) (λ c κs. search needs) (λ c. search needs) (λ c. search needs) (λ c κs. search needs) (λ c. search needs)
+    (λ c. search needs) (λ c κs. search needs)
     returns
     returns-2
     returns-3

@@ -15,33 +15,15 @@ returns : tie.Need-returns
 unfolding numberAt
 returns c = sym (short _ _ 4 true (c .if1 .taken))
 
-shared-slice-read-first : tie.Need-shared-slice-read-first
-shared-slice-read-first c = search needs
-
-cast-t9 : tie.Need-cast-t9
-cast-t9 c = search needs
-
-add-t10 : tie.Need-add-t10
-add-t10 c = search needs
-
 returns-2 : tie.Need-returns-2
 unfolding numberAt
 returns-2 c =
     let a = c .before .before .before .before .args in
     sym (last (now (a .bytes)) (a .at) 3 true (search needs) (c .if2 .taken) ∙ last-only _ _)
 
-add-later-groups : tie.Need-add-later-groups
-add-later-groups c = search needs
-
 -- the first byte's group
 group : (c : tie.Else2) → getD (now (c .before .before .before .before .args .bytes)) (c .before .before .before .before .args .at) 0 - 128 < 128
 group c = omega (arith, c .before .shared-slice-known2 .given (c .before .before .before .before .args .at))
-
-cast-later-groups : tie.Need-cast-later-groups
-cast-later-groups c = omega (arith, group c)
-
-later-groups-requires : tie.Need-later-groups-requires
-later-groups-requires c κs = group c
 
 returns-3 : tie.Need-returns-3
 unfolding numberAt followed
@@ -58,11 +40,9 @@ number-at-spec =
     tie.close
     (tie.spec
     returns
-    shared-slice-read-first
-    cast-t9
-    add-t10
+    (λ c. search needs) (λ c. search needs) (λ c. search needs)
     returns-2
-    add-later-groups
-    cast-later-groups
-    later-groups-requires
+    (λ c. search needs)
+    (λ c. omega (arith, group c))
+    (λ c κs. group c)
     returns-3)

@@ -18,57 +18,6 @@ Inv-loop buffer₀ at n count i₀ left₀ buffer i left = (count ≡ length (de
 abbrev μ-loop : tie.MeasureT-loop
 μ-loop buffer₀ at n count i₀ left₀ buffer i left = left
 
-decimal-length-requires : tie.Need-decimal-length-requires Inv-loop μ-loop
-decimal-length-requires c κs = search needs
-
-returns : tie.Need-returns Inv-loop μ-loop
-returns c = let a = c .before .before .before .args in kept (now (a .buffer)) (a .at) (decimal (a .n)) (omega arith)
-
-sub-if2 : tie.Need-sub-if2 Inv-loop μ-loop
-sub-if2 c = search needs
-
-returns-2 : tie.Need-returns-2 Inv-loop μ-loop
-returns-2 c = let a = c .before .before .before .before .args in kept (now (a .buffer)) (a .at) (decimal (a .n)) (omega arith)
-
-sub-i : tie.Need-sub-i Inv-loop μ-loop
-sub-i c = omega (arith, decimal-count (c .before .before .before .before .args .n))
-
-add-i : tie.Need-add-i Inv-loop μ-loop
-add-i c = omega (arith, decimal-count (c .before .before .before .before .args .n))
-
-loop-holds : tie.Need-loop-holds Inv-loop μ-loop
-loop-holds c = (c .before .before .decimal-length .ensures, begins (omega arith) (c .before .before .decimal-length .ensures) (omega arith))
-
-add-buffer : tie.Need-add-buffer Inv-loop μ-loop
-add-buffer c = omega arith
-
-cast-buffer : tie.Need-cast-buffer Inv-loop μ-loop
-cast-buffer c = omega arith
-
-slice-write-buffer : tie.Need-slice-write-buffer Inv-loop μ-loop
-slice-write-buffer c = inside (c .before .loop .inv .1)
-
-sub-i-2 : tie.Need-sub-i-2 Inv-loop μ-loop
-sub-i-2 c = omega (arith, goes-on (c .before .loop .inv .1) (c .loop-test .taken) .0)
-
-loop-less : tie.Need-loop-less Inv-loop μ-loop
-loop-less c = omega arith
-
-loop-again : tie.Need-loop-again Inv-loop μ-loop
-loop-again c = (c .before .loop .inv .0, goes-on (c .before .loop .inv .1) (c .loop-test .taken) .1)
-
-add-buffer-2 : tie.Need-add-buffer-2 Inv-loop μ-loop
-add-buffer-2 c = omega arith
-
-cast-buffer-2 : tie.Need-cast-buffer-2 Inv-loop μ-loop
-cast-buffer-2 c = omega arith
-
-slice-write-buffer-2 : tie.Need-slice-write-buffer-2 Inv-loop μ-loop
-slice-write-buffer-2 c = inside (c .before .loop .inv .1)
-
-same-length : tie.Need-same-length Inv-loop μ-loop
-same-length c = simp length-set (same (c .before .loop .inv .1))
-
 returns-3 : tie.Need-returns-3 Inv-loop μ-loop
 returns-3 c =
     let a = c .before .before .before .before .before .before .args in
@@ -83,21 +32,21 @@ write-decimal-spec =
     (tie.spec
     Inv-loop
     μ-loop
-    decimal-length-requires
-    returns
-    sub-if2
-    returns-2
-    sub-i
-    add-i
-    loop-holds
-    add-buffer
-    cast-buffer
-    slice-write-buffer
-    sub-i-2
-    loop-less
-    loop-again
-    add-buffer-2
-    cast-buffer-2
-    slice-write-buffer-2
-    same-length
+    (λ c κs. search needs)
+    (λ c. let a = c .before .before .before .args in kept (now (a .buffer)) (a .at) (decimal (a .n)) (omega arith))
+    (λ c. search needs)
+    (λ c. let a = c .before .before .before .before .args in kept (now (a .buffer)) (a .at) (decimal (a .n)) (omega arith))
+    (λ c. omega (arith, decimal-count (c .before .before .before .before .args .n)))
+    (λ c. omega (arith, decimal-count (c .before .before .before .before .args .n)))
+    (λ c. (c .before .before .decimal-length .ensures, begins (omega arith) (c .before .before .decimal-length .ensures) (omega arith)))
+    (λ c. omega arith)
+    (λ c. omega arith)
+    (λ c. inside (c .before .loop .inv .1))
+    (λ c. omega (arith, goes-on (c .before .loop .inv .1) (c .loop-test .taken) .0))
+    (λ c. omega arith)
+    (λ c. (c .before .loop .inv .0, goes-on (c .before .loop .inv .1) (c .loop-test .taken) .1))
+    (λ c. omega arith)
+    (λ c. omega arith)
+    (λ c. inside (c .before .loop .inv .1))
+    (λ c. simp length-set (same (c .before .loop .inv .1)))
     returns-3)

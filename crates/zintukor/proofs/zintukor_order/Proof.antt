@@ -5,14 +5,9 @@ use borrow.Author.Needs.{needs}
 use Rattle.zintukor.proofs.zintukor_order.Statement.{statement}
 use Rattle.zintukor.proofs.zintukor_order.Tie as tie
 
-order-requires : tie.Need-order-requires
-order-requires c κs = search needs
-
-order-code-requires : tie.Need-order-code-requires
-order-code-requires c κs = search needs
-
-returns : tie.Need-returns
-returns c = c .order-code .ensures ∙ ap orderCode (c .before .order .ensures)
-
 pub zintukor-order-spec : {M : Type 1} → statement M
-zintukor-order-spec = tie.close (tie.spec order-requires order-code-requires returns)
+zintukor-order-spec =
+    tie.close
+    (tie.spec
+    (λ c κs. search needs) (λ c κs. search needs)
+    (λ c. c .order-code .ensures ∙ ap orderCode (c .before .order .ensures)))

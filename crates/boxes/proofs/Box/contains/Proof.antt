@@ -5,12 +5,6 @@ use borrow.Author.Needs.{needs}
 use Rattle.boxes.proofs.Box.contains.Statement.{statement}
 use Rattle.boxes.proofs.Box.contains.Tie as tie
 
-encloses-requires : tie.Need-encloses-requires
-encloses-requires c κs = search needs
-
-encloses-requires-2 : tie.Need-encloses-requires-2
-encloses-requires-2 c κs = search needs
-
 returns : tie.Need-returns
 unfolding contains
 returns c = simp (sym (c .before .before .encloses .ensures) ∙ c .before .if1 .taken) (c .encloses2 .ensures)
@@ -20,4 +14,9 @@ unfolding contains
 returns-2 c = simp (sym (c .before .encloses .ensures) ∙ c .if1 .left)
 
 pub contains-spec : {M : Type 1} → statement M
-contains-spec = tie.close (tie.spec encloses-requires encloses-requires-2 returns returns-2)
+contains-spec =
+    tie.close
+    (tie.spec
+    (λ c κs. search needs) (λ c κs. search needs)
+    returns
+    returns-2)

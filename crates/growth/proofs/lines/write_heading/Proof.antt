@@ -8,18 +8,6 @@ use borrow.Author.Needs.{needs}
 use Rattle.growth.proofs.lines.write_heading.Statement.{statement}
 use Rattle.growth.proofs.lines.write_heading.Tie as tie
 
-slice-aggregate-write-bytes : tie.Need-slice-aggregate-write-bytes
-slice-aggregate-write-bytes c = search needs
-
-write-bytes-requires : tie.Need-write-bytes-requires
-write-bytes-requires c κs = search needs
-
-add-result : tie.Need-add-result
-add-result c = search needs
-
-same-length : tie.Need-same-length
-same-length c = search needs
-
 returns : tie.Need-returns
 returns c =
     let a = c .before .before .before .before .before .before .args in
@@ -28,4 +16,6 @@ returns c =
 pub write-heading-spec : {M : Type 1} → statement M
 write-heading-spec =
     tie.close
-    (tie.spec slice-aggregate-write-bytes write-bytes-requires add-result same-length returns)
+    (tie.spec
+    (λ c. search needs) (λ c κs. search needs) (λ c. search needs) (λ c. search needs)
+    returns)

@@ -11,20 +11,8 @@ use Rattle.growth.proofs.lines.write_row.Tie as tie
 abbrev row : tie.Start → Row
 row c = let a = c .args in record { id = a .id; l = a .l; r = a .r; q = a .q }
 
-write-field-requires : tie.Need-write-field-requires
-write-field-requires c κs = search needs
-
-write-field-requires-2 : tie.Need-write-field-requires-2
-write-field-requires-2 c κs = let a = c .before .before .before .before .before .before .args in omega (arith, field-most (a .id) 32)
-
-write-field-requires-3 : tie.Need-write-field-requires-3
-write-field-requires-3 c κs = let a = c .before .before .before .before .before .before .before .before .before .before .args in omega (arith, field-most (a .id) 32, field-most (a .l) 32)
-
 write-field-requires-4 : tie.Need-write-field-requires-4
 write-field-requires-4 c κs = let a = c .before .before .before .before .before .before .before .before .before .before .before .before .before .before .args in omega (arith, field-most (a .id) 32, field-most (a .l) 32, field-most (a .r) 32)
-
-same-length : tie.Need-same-length
-same-length c = search needs
 
 returns : tie.Need-returns
 returns c =
@@ -40,9 +28,9 @@ pub write-row-spec : {M : Type 1} → statement M
 write-row-spec =
     tie.close
     (tie.spec
-    write-field-requires
-    write-field-requires-2
-    write-field-requires-3
+    (λ c κs. search needs)
+    (λ c κs. let a = c .before .before .before .before .before .before .args in omega (arith, field-most (a .id) 32))
+    (λ c κs. let a = c .before .before .before .before .before .before .before .before .before .before .args in omega (arith, field-most (a .id) 32, field-most (a .l) 32))
     write-field-requires-4
-    same-length
+    (λ c. search needs)
     returns)

@@ -18,50 +18,11 @@ Inv-loop buffer₀ p id l r q count at₀ i₀ buffer at i = (i ≤ count) × Wr
 abbrev μ-loop : tie.MeasureT-loop
 μ-loop buffer₀ p id l r q count at₀ i₀ buffer at i = count - i
 
-loop-holds : tie.Need-loop-holds Inv-loop μ-loop
-loop-holds c = (omega arith, write-begins (omega arith))
-
-mul-write-row : tie.Need-mul-write-row Inv-loop μ-loop
-mul-write-row c = omega arith
-
-shared-slice-read-write-row : tie.Need-shared-slice-read-write-row Inv-loop μ-loop
-shared-slice-read-write-row c = omega arith
-
-mul-write-row-2 : tie.Need-mul-write-row-2 Inv-loop μ-loop
-mul-write-row-2 c = omega arith
-
-shared-slice-read-write-row-2 : tie.Need-shared-slice-read-write-row-2 Inv-loop μ-loop
-shared-slice-read-write-row-2 c = omega arith
-
-mul-write-row-3 : tie.Need-mul-write-row-3 Inv-loop μ-loop
-mul-write-row-3 c = omega arith
-
-shared-slice-read-write-row-3 : tie.Need-shared-slice-read-write-row-3 Inv-loop μ-loop
-shared-slice-read-write-row-3 c = omega arith
-
-mul-write-row-4 : tie.Need-mul-write-row-4 Inv-loop μ-loop
-mul-write-row-4 c = omega arith
-
-shared-slice-read-write-row-4 : tie.Need-shared-slice-read-write-row-4 Inv-loop μ-loop
-shared-slice-read-write-row-4 c = omega arith
-
-write-row-requires : tie.Need-write-row-requires Inv-loop μ-loop
-write-row-requires c κs = let m = c .before .before .before .before .before in let w = m .before .loop .inv .1 in omega (arith, w .here, w .few, write-same w (omega arith), m .loop-test .taken)
-
-add-i : tie.Need-add-i Inv-loop μ-loop
-add-i c = omega arith
-
-loop-less : tie.Need-loop-less Inv-loop μ-loop
-loop-less c = omega arith
-
 loop-again : tie.Need-loop-again Inv-loop μ-loop
 loop-again c =
     let m = c .before .before in
     let t = m .before .before .before .before .before .before in
     (omega arith, write-again (t .before .loop .inv .1) (omega arith) (m .write-row .ensures .0) (m .write-row .ensures .1))
-
-same-length : tie.Need-same-length Inv-loop μ-loop
-same-length c = let w = c .before .loop .inv .1 in write-same w (omega arith)
 
 returns : tie.Need-returns Inv-loop μ-loop
 returns c =
@@ -78,18 +39,18 @@ write-rows-spec =
     (tie.spec
     Inv-loop
     μ-loop
-    loop-holds
-    mul-write-row
-    shared-slice-read-write-row
-    mul-write-row-2
-    shared-slice-read-write-row-2
-    mul-write-row-3
-    shared-slice-read-write-row-3
-    mul-write-row-4
-    shared-slice-read-write-row-4
-    write-row-requires
-    add-i
-    loop-less
+    (λ c. (omega arith, write-begins (omega arith)))
+    (λ c. omega arith)
+    (λ c. omega arith)
+    (λ c. omega arith)
+    (λ c. omega arith)
+    (λ c. omega arith)
+    (λ c. omega arith)
+    (λ c. omega arith)
+    (λ c. omega arith)
+    (λ c κs. let m = c .before .before .before .before .before in let w = m .before .loop .inv .1 in omega (arith, w .here, w .few, write-same w (omega arith), m .loop-test .taken))
+    (λ c. omega arith)
+    (λ c. omega arith)
     loop-again
-    same-length
+    (λ c. let w = c .before .loop .inv .1 in write-same w (omega arith))
     returns)

@@ -17,60 +17,15 @@ Inv-loop log from id₀ l₀ r₀ q₀ text₀ at₀ count₀ p₀ id l r q text
 abbrev μ-loop : tie.MeasureT-loop
 μ-loop log from id₀ l₀ r₀ q₀ text₀ at₀ count₀ p₀ id l r q text at count p = length log - at
 
-loop-holds : tie.Need-loop-holds Inv-loop μ-loop
-loop-holds c = let s = c .before .before .before .before .before .before in (refl, refl, refl, refl, going-begins (s .pre .0) (s .pre .1 .0) (s .pre .1 .1))
-
-request-at-requires : tie.Need-request-at-requires Inv-loop μ-loop
-request-at-requires c κs = search needs
-
-enum-known-why : tie.Need-enum-known-why Inv-loop μ-loop
-enum-known-why c = search needs
-
-write-answer-requires : tie.Need-write-answer-requires Inv-loop μ-loop
-write-answer-requires c κs = (line-room (c .before .before .before .before .before .before .loop .inv .4) (c .before .before .before .before .before .loop-test .taken), tt)
-
-same-length : tie.Need-same-length Inv-loop μ-loop
-same-length c = search needs
-
-same-length-2 : tie.Need-same-length-2 Inv-loop μ-loop
-same-length-2 c = search needs
-
-same-length-3 : tie.Need-same-length-3 Inv-loop μ-loop
-same-length-3 c = search needs
-
-same-length-4 : tie.Need-same-length-4 Inv-loop μ-loop
-same-length-4 c = search needs
-
-same-length-5 : tie.Need-same-length-5 Inv-loop μ-loop
-same-length-5 c = omega (arith, going-same (c .before .before .before .before .before .before .before .before .before .loop .inv .4))
-
 returns : tie.Need-returns Inv-loop μ-loop
 returns c =
     let m = c .before .before .before .before .before .before .before in
     going-bad (m .before .before .loop .inv .4) (m .before .loop-test .taken) (sym (m .request-at .ensures) ∙ ap requestSays (c .before .before .before .before .before .why .given .1)) (c .before .before .write-answer .ensures .0) (c .before .before .write-answer .ensures .1)
 
-enum-known-start : tie.Need-enum-known-start Inv-loop μ-loop
-enum-known-start c = search needs
-
-sub-refine : tie.Need-sub-refine Inv-loop μ-loop
-sub-refine c = let s = c .before .before .before .before .before in omega (arith, part-in _ _ _ (sym (s .before .before .request-at .ensures) ∙ ap requestSays (s .start .given .1)))
-
-part-refine-start : tie.Need-part-refine-start Inv-loop μ-loop
-part-refine-start c = let s = c .before .before .before .before .before in omega (arith, part-in _ _ _ (sym (s .before .before .request-at .ensures) ∙ ap requestSays (s .start .given .1)))
-
-part-refine-end : tie.Need-part-refine-end Inv-loop μ-loop
-part-refine-end c = let s = c .before .before .before .before .before in omega (arith, part-in _ _ _ (sym (s .before .before .request-at .ensures) ∙ ap requestSays (s .start .given .1)))
-
-refine-requires : tie.Need-refine-requires Inv-loop μ-loop
-refine-requires c κs = search needs
-
 write-answer-requires-2 : tie.Need-write-answer-requires-2 Inv-loop μ-loop
 write-answer-requires-2 c κs =
     let g = c .before .before .before .before .before .before .before .before .before .before .before .before .before .before .before .before .before .before .before .before .loop .inv .4 in
     (line-room g (c .before .before .before .before .before .before .before .before .before .before .before .before .before .before .before .before .before .before .before .loop-test .taken), rw (c .before .before .before .before .before .before .before .before .before .refine .ensures .0) (refined-countable (g .fitting) _))
-
-count-after-requires : tie.Need-count-after-requires Inv-loop μ-loop
-count-after-requires c κs = search needs
 
 loop-less : tie.Need-loop-less Inv-loop μ-loop
 loop-less c = let s = c .before .before .before .before .before .before .before .before .before .before .before .before .before .before .before .before .before .before .before .before in omega (arith, part-in _ _ _ (sym (s .before .before .request-at .ensures) ∙ ap requestSays (s .start .given .1)))
@@ -90,52 +45,27 @@ loop-again c =
       going-again g _ (s .before .before .before .loop-test .taken) e _ (f .ensures .0) (f .ensures .1) (record { in-id = omega arith; in-l = omega arith; in-r = omega arith; in-q = omega arith }) (w .0) (w .1) (c .count-after .ensures),
     )
 
-same-length-6 : tie.Need-same-length-6 Inv-loop μ-loop
-same-length-6 c = search needs
-
-same-length-7 : tie.Need-same-length-7 Inv-loop μ-loop
-same-length-7 c = search needs
-
-same-length-8 : tie.Need-same-length-8 Inv-loop μ-loop
-same-length-8 c = search needs
-
-same-length-9 : tie.Need-same-length-9 Inv-loop μ-loop
-same-length-9 c = search needs
-
-same-length-10 : tie.Need-same-length-10 Inv-loop μ-loop
-same-length-10 c = going-same (c .before .loop .inv .4)
-
-returns-2 : tie.Need-returns-2 Inv-loop μ-loop
-returns-2 c = going-ends (c .before .loop .inv .4) (c .loop-test .left)
-
 pub carry-out-spec : {M : Type 1} → statement M
 carry-out-spec =
     tie.close
     (tie.spec
     Inv-loop
     μ-loop
-    loop-holds
-    request-at-requires
-    enum-known-why
-    write-answer-requires
-    same-length
-    same-length-2
-    same-length-3
-    same-length-4
-    same-length-5
+    (λ c. let s = c .before .before .before .before .before .before in (refl, refl, refl, refl, going-begins (s .pre .0) (s .pre .1 .0) (s .pre .1 .1)))
+    (λ c κs. search needs) (λ c. search needs)
+    (λ c κs. (line-room (c .before .before .before .before .before .before .loop .inv .4) (c .before .before .before .before .before .loop-test .taken), tt))
+    (λ c. search needs) (λ c. search needs) (λ c. search needs) (λ c. search needs)
+    (λ c. omega (arith, going-same (c .before .before .before .before .before .before .before .before .before .loop .inv .4)))
     returns
-    enum-known-start
-    sub-refine
-    part-refine-start
-    part-refine-end
-    refine-requires
+    (λ c. search needs)
+    (λ c. let s = c .before .before .before .before .before in omega (arith, part-in _ _ _ (sym (s .before .before .request-at .ensures) ∙ ap requestSays (s .start .given .1))))
+    (λ c. let s = c .before .before .before .before .before in omega (arith, part-in _ _ _ (sym (s .before .before .request-at .ensures) ∙ ap requestSays (s .start .given .1))))
+    (λ c. let s = c .before .before .before .before .before in omega (arith, part-in _ _ _ (sym (s .before .before .request-at .ensures) ∙ ap requestSays (s .start .given .1))))
+    (λ c κs. search needs)
     write-answer-requires-2
-    count-after-requires
+    (λ c κs. search needs)
     loop-less
     loop-again
-    same-length-6
-    same-length-7
-    same-length-8
-    same-length-9
-    same-length-10
-    returns-2)
+    (λ c. search needs) (λ c. search needs) (λ c. search needs) (λ c. search needs)
+    (λ c. going-same (c .before .loop .inv .4))
+    (λ c. going-ends (c .before .loop .inv .4) (c .loop-test .left)))

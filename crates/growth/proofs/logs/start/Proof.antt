@@ -14,33 +14,6 @@ use Rattle.growth.proofs.logs.start.Tie as tie
 abbrev table : tie.Start → Columns
 table c = let a = c .args in columns (now (a .id)) (now (a .l)) (now (a .r)) (now (a .q))
 
-number-at-requires : tie.Need-number-at-requires
-number-at-requires c κs = search needs
-
-enum-known-why : tie.Need-enum-known-why
-enum-known-why c = search needs
-
-enum-known-group : tie.Need-enum-known-group
-enum-known-group c = search needs
-
-number-at-requires-2 : tie.Need-number-at-requires-2
-number-at-requires-2 c κs = search needs
-
-enum-known-why-2 : tie.Need-enum-known-why-2
-enum-known-why-2 c = search needs
-
-enum-known-quota : tie.Need-enum-known-quota
-enum-known-quota c = search needs
-
-fresh-requires : tie.Need-fresh-requires
-fresh-requires c κs = search needs
-
-enum-known-why-3 : tie.Need-enum-known-why-3
-enum-known-why-3 c = search needs
-
-enum-told : tie.Need-enum-told
-enum-told c = search needs
-
 returns : tie.Need-returns
 returns c =
     let e = sym (c .before .before .before .number-at .ensures) ∙ ap drawnSays (c .before .why .given .1) in
@@ -53,18 +26,6 @@ returns-2 c =
     let f = sym (d .number-at2 .ensures) ∙ ap drawnSays (c .before .why2 .given .1) in
     begun-refused (table (d .before .before .before .before .before .before .before .before .before .before)) _ (second-bad (table (d .before .before .before .before .before .before .before .before .before .before)) _ e f)
 
-same-length : tie.Need-same-length
-same-length c = search needs
-
-same-length-2 : tie.Need-same-length-2
-same-length-2 c = search needs
-
-same-length-3 : tie.Need-same-length-3
-same-length-3 c = search needs
-
-same-length-4 : tie.Need-same-length-4
-same-length-4 c = search needs
-
 returns-3 : tie.Need-returns-3
 returns-3 c =
     let d = c .before .before .before .before .before .before .before .before .before .before .before .before .before .before .before .before .before .before .before in
@@ -75,18 +36,6 @@ returns-3 c =
     let t = table (d .before .before .before .before .before .before .before .before .before .before) in
     let b = begun-refused t _ (fresh-bad t _ e f g) in
     (b .0, h .1 ∙ ap (λ x. afterwards x t) g ∙ b .1)
-
-same-length-5 : tie.Need-same-length-5
-same-length-5 c = search needs
-
-same-length-6 : tie.Need-same-length-6
-same-length-6 c = search needs
-
-same-length-7 : tie.Need-same-length-7
-same-length-7 c = search needs
-
-same-length-8 : tie.Need-same-length-8
-same-length-8 c = search needs
 
 returns-4 : tie.Need-returns-4
 returns-4 c =
@@ -103,24 +52,11 @@ pub start-spec : {M : Type 1} → statement M
 start-spec =
     tie.close
     (tie.spec
-    number-at-requires
-    enum-known-why
-    enum-known-group
-    number-at-requires-2
-    enum-known-why-2
-    enum-known-quota
-    fresh-requires
-    enum-known-why-3
-    enum-told
+    (λ c κs. search needs) (λ c. search needs) (λ c. search needs) (λ c κs. search needs) (λ c. search needs) (λ c. search needs) (λ c κs. search needs)
+    (λ c. search needs) (λ c. search needs)
     returns
     returns-2
-    same-length
-    same-length-2
-    same-length-3
-    same-length-4
+    (λ c. search needs) (λ c. search needs) (λ c. search needs) (λ c. search needs)
     returns-3
-    same-length-5
-    same-length-6
-    same-length-7
-    same-length-8
+    (λ c. search needs) (λ c. search needs) (λ c. search needs) (λ c. search needs)
     returns-4)

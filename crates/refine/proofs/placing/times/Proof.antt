@@ -17,24 +17,6 @@ Inv-loop column n x k₀ i₀ k i = (i ≤ n) × (k ≤ i) × ((values : List �
 abbrev μ-loop : tie.MeasureT-loop
 μ-loop column n x k₀ i₀ k i = n - i
 
-loop-holds : tie.Need-loop-holds Inv-loop μ-loop
-loop-holds c = (omega arith, omega arith, λ v. let e = ap (times (c .args .x)) (listed-all (now (c .args .column)) v (c .args .n)) in omega arith)
-
-mul-if1 : tie.Need-mul-if1 Inv-loop μ-loop
-mul-if1 c = omega arith
-
-shared-slice-read-if1 : tie.Need-shared-slice-read-if1 Inv-loop μ-loop
-shared-slice-read-if1 c = omega arith
-
-add-k : tie.Need-add-k Inv-loop μ-loop
-add-k c = omega arith
-
-add-i : tie.Need-add-i Inv-loop μ-loop
-add-i c = omega arith
-
-loop-less : tie.Need-loop-less Inv-loop μ-loop
-loop-less c = omega arith
-
 loop-again : tie.Need-loop-again Inv-loop μ-loop
 loop-again c =
     let inv = c .before .before .before .loop .inv in
@@ -55,11 +37,11 @@ times-spec =
     (tie.spec
     Inv-loop
     μ-loop
-    loop-holds
-    mul-if1
-    shared-slice-read-if1
-    add-k
-    add-i
-    loop-less
+    (λ c. (omega arith, omega arith, λ v. let e = ap (times (c .args .x)) (listed-all (now (c .args .column)) v (c .args .n)) in omega arith))
+    (λ c. omega arith)
+    (λ c. omega arith)
+    (λ c. omega arith)
+    (λ c. omega arith)
+    (λ c. omega arith)
     loop-again
     returns)

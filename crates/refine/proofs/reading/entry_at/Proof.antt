@@ -6,36 +6,6 @@ use borrow.Author.Needs.{needs}
 use Rattle.refine.proofs.reading.entry_at.Statement.{statement}
 use Rattle.refine.proofs.reading.entry_at.Tie as tie
 
-positive-at-requires : tie.Need-positive-at-requires
-positive-at-requires c κs = search needs
-
-enum-known-why : tie.Need-enum-known-why
-enum-known-why c = search needs
-
-enum-known-id : tie.Need-enum-known-id
-enum-known-id c = search needs
-
-positive-at-requires-2 : tie.Need-positive-at-requires-2
-positive-at-requires-2 c κs = search needs
-
-enum-known-why-2 : tie.Need-enum-known-why-2
-enum-known-why-2 c = search needs
-
-enum-known-quota : tie.Need-enum-known-quota
-enum-known-quota c = search needs
-
-draw-at-requires : tie.Need-draw-at-requires
-draw-at-requires c κs = search needs
-
-enum-known-why-3 : tie.Need-enum-known-why-3
-enum-known-why-3 c = search needs
-
-enum-known-children : tie.Need-enum-known-children
-enum-known-children c = search needs
-
-returns : tie.Need-returns
-returns c = entry-no-id _ _ (sym (ap drawnSays (c .before .why .given .1)) ∙ c .before .before .before .positive-at .ensures)
-
 returns-2 : tie.Need-returns-2
 returns-2 c =
     entry-no-quota _ _ (sym (ap drawnSays (c .before .before .before .before .before .id .given .1)) ∙ c .before .before .before .before .before .before .before .positive-at .ensures)
@@ -57,16 +27,9 @@ pub entry-at-spec : {M : Type 1} → statement M
 entry-at-spec =
     tie.close
     (tie.spec
-    positive-at-requires
-    enum-known-why
-    enum-known-id
-    positive-at-requires-2
-    enum-known-why-2
-    enum-known-quota
-    draw-at-requires
-    enum-known-why-3
-    enum-known-children
-    returns
+    (λ c κs. search needs) (λ c. search needs) (λ c. search needs) (λ c κs. search needs) (λ c. search needs) (λ c. search needs) (λ c κs. search needs)
+    (λ c. search needs) (λ c. search needs)
+    (λ c. entry-no-id _ _ (sym (ap drawnSays (c .before .why .given .1)) ∙ c .before .before .before .positive-at .ensures))
     returns-2
     returns-3
     returns-4)

@@ -6,25 +6,11 @@ use borrow.Author.Needs.{needs}
 use Rattle.refine.proofs.reading.positive_at.Statement.{statement}
 use Rattle.refine.proofs.reading.positive_at.Tie as tie
 
-draw-at-requires : tie.Need-draw-at-requires
-draw-at-requires c κs = search needs
-
-enum-known-why : tie.Need-enum-known-why
-enum-known-why c = search needs
-
-enum-known-value : tie.Need-enum-known-value
-enum-known-value c = search needs
-
-returns : tie.Need-returns
-returns c = positive-zero _ _ (sym (ap drawnSays (c .before .before .value .given .1)) ∙ c .before .before .before .before .draw-at .ensures) (c .if1 .taken)
-
-returns-2 : tie.Need-returns-2
-returns-2 c = positive-refused _ _ (sym (ap drawnSays (c .before .why .given .1)) ∙ c .before .before .before .draw-at .ensures)
-
-returns-3 : tie.Need-returns-3
-returns-3 c = positive-found _ _ (sym (ap drawnSays (c .before .before .value .given .1)) ∙ c .before .before .before .before .draw-at .ensures) (c .if1 .left)
-
 pub positive-at-spec : {M : Type 1} → statement M
 positive-at-spec =
     tie.close
-    (tie.spec draw-at-requires enum-known-why enum-known-value returns returns-2 returns-3)
+    (tie.spec
+    (λ c κs. search needs) (λ c. search needs) (λ c. search needs)
+    (λ c. positive-zero _ _ (sym (ap drawnSays (c .before .before .value .given .1)) ∙ c .before .before .before .before .draw-at .ensures) (c .if1 .taken))
+    (λ c. positive-refused _ _ (sym (ap drawnSays (c .before .why .given .1)) ∙ c .before .before .before .draw-at .ensures))
+    (λ c. positive-found _ _ (sym (ap drawnSays (c .before .before .value .given .1)) ∙ c .before .before .before .before .draw-at .ensures) (c .if1 .left)))

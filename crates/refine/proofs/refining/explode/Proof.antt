@@ -21,23 +21,11 @@ held c = let a = c .args in work (now (a .ids)) (now (a .quotas)) (now (a .ends)
 good-at : (c : tie.Start) → Passed (cols c) (c .args .count)
 good-at c = check-passed (cols c) (c .args .count) (c .pre .1 .0) .0
 
-place-of-requires : tie.Need-place-of-requires
-place-of-requires c κs = good-at (c .before .before .before .before .before .before .before .before .before .before .before) .most
-
-same-length : tie.Need-same-length
-same-length c = search needs
-
 returns : tie.Need-returns
 returns c =
     λ a told.
     let s = c .before .before .before .before .before .before .before .before .before .before .before .before .before in
     refuses (cols s) _ 20 (unknown (cols s) (s .args .count) (s .args .exploded) (c .before .place-of .result) a (held s) (s .args .upright) (s .args .entries) (s .args .quota) told (s .pre .1 .0) (c .before .place-of .ensures) (length (now (s .args .id))) (c .if1 .taken))
-
-times-requires : tie.Need-times-requires
-times-requires c κs = search needs
-
-same-length-2 : tie.Need-same-length-2
-same-length-2 c = search needs
 
 returns-2 : tie.Need-returns-2
 returns-2 c =
@@ -47,9 +35,6 @@ returns-2 c =
 
 some-id-taken-requires : tie.Need-some-id-taken-requires
 some-id-taken-requires c κs = let s = c .before .before .before .before .before .before .before .before .before .before .before .before .before .before .before .before in (good-at s .most, omega (arith, s .pre .1 .1 .1 .roomy .in-ids, s .pre .1 .1 .1 .entries-most))
-
-same-length-3 : tie.Need-same-length-3
-same-length-3 c = search needs
 
 returns-3 : tie.Need-returns-3
 returns-3 c =
@@ -63,12 +48,6 @@ mul-if4 c = let s = c .before .before .before .before .before .before .before .b
 slice-read-if4 : tie.Need-slice-read-if4
 slice-read-if4 c = let s = c .before .before .before .before .before .before .before .before .before .before .before .before .before .before .before .before .before .before .before in let g = good-at s in let l = g .lengths in let m = c .before .before .before .before .before .before .before .place-of .ensures .most in let d = c .before .before .before .before .before .before .if1 .left in omega (arith, g .most, l .in-q)
 
-cast-if4 : tie.Need-cast-if4
-cast-if4 c = omega (arith, c .slice-known7 .given (c .before .before .before .before .before .before .before .place-of .result))
-
-same-length-4 : tie.Need-same-length-4
-same-length-4 c = search needs
-
 returns-4 : tie.Need-returns-4
 returns-4 c =
     λ a told.
@@ -77,12 +56,6 @@ returns-4 c =
 
 add-if5 : tie.Need-add-if5
 add-if5 c = let s = c .before .before .before .before .before .before .before .before .before .before .before .before .before .before .before .before .before .before .before .before in let g = good-at s in let l = g .lengths in omega (arith, g .most, l .most, s .pre .1 .1 .1 .entries-most)
-
-sub-if5 : tie.Need-sub-if5
-sub-if5 c = search needs
-
-same-length-5 : tie.Need-same-length-5
-same-length-5 c = search needs
 
 returns-5 : tie.Need-returns-5
 returns-5 c =
@@ -101,27 +74,6 @@ write-entries-requires c κs =
 add-t21 : tie.Need-add-t21
 add-t21 c = let s = c .before .before .before .before .before .before .before .before .before .before .before .before .before .before .before .before .before .before .before .before .before .before .before .before .before .before .before .before .before .before .before .before .before .before .before .before .before .before .before .before in let g = good-at s in let l = g .lengths in omega (arith, g .most, l .most, s .pre .1 .1 .1 .entries-most)
 
-sub-t31 : tie.Need-sub-t31
-sub-t31 c = search needs
-
-same-length-6 : tie.Need-same-length-6
-same-length-6 c = search needs
-
-same-length-7 : tie.Need-same-length-7
-same-length-7 c = search needs
-
-same-length-8 : tie.Need-same-length-8
-same-length-8 c = search needs
-
-same-length-9 : tie.Need-same-length-9
-same-length-9 c = search needs
-
-same-length-10 : tie.Need-same-length-10
-same-length-10 c = search needs
-
-same-length-11 : tie.Need-same-length-11
-same-length-11 c = search needs
-
 returns-6 : tie.Need-returns-6
 returns-6 c =
     λ a told.
@@ -135,31 +87,23 @@ pub explode-spec : {M : Type 1} → statement M
 explode-spec =
     tie.close
     (tie.spec
-    place-of-requires
-    same-length
+    (λ c κs. good-at (c .before .before .before .before .before .before .before .before .before .before .before) .most)
+    (λ c. search needs)
     returns
-    times-requires
-    same-length-2
+    (λ c κs. search needs) (λ c. search needs)
     returns-2
     some-id-taken-requires
-    same-length-3
+    (λ c. search needs)
     returns-3
     mul-if4
     slice-read-if4
-    cast-if4
-    same-length-4
+    (λ c. omega (arith, c .slice-known7 .given (c .before .before .before .before .before .before .before .place-of .result)))
+    (λ c. search needs)
     returns-4
     add-if5
-    sub-if5
-    same-length-5
+    (λ c. search needs) (λ c. search needs)
     returns-5
     write-entries-requires
     add-t21
-    sub-t31
-    same-length-6
-    same-length-7
-    same-length-8
-    same-length-9
-    same-length-10
-    same-length-11
+    (λ c. search needs) (λ c. search needs) (λ c. search needs) (λ c. search needs) (λ c. search needs) (λ c. search needs) (λ c. search needs)
     returns-6)

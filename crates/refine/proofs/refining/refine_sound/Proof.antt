@@ -38,63 +38,6 @@ told-at c =
       quota-is = u .quota-is;
     }
 
-places-requires : tie.Need-places-requires
-places-requires c κs = search needs
-
-places-requires-2 : tie.Need-places-requires-2
-places-requires-2 c κs = search needs
-
-indices-requires : tie.Need-indices-requires
-indices-requires c κs = search needs
-
-amounts-requires : tie.Need-amounts-requires
-amounts-requires c κs = search needs
-
-places-requires-3 : tie.Need-places-requires-3
-places-requires-3 c κs = search needs
-
-places-requires-4 : tie.Need-places-requires-4
-places-requires-4 c κs = search needs
-
-slice-aggregate-read-request : tie.Need-slice-aggregate-read-request
-slice-aggregate-read-request c = search needs
-
-slice-aggregate-read-request-2 : tie.Need-slice-aggregate-read-request-2
-slice-aggregate-read-request-2 c = search needs
-
-slice-aggregate-read-request-3 : tie.Need-slice-aggregate-read-request-3
-slice-aggregate-read-request-3 c = search needs
-
-slice-aggregate-read-request-4 : tie.Need-slice-aggregate-read-request-4
-slice-aggregate-read-request-4 c = search needs
-
-read-request-requires : tie.Need-read-request-requires
-read-request-requires c κs = search needs
-
-enum-known-why : tie.Need-enum-known-why
-enum-known-why c = search needs
-
-enum-known-exploded : tie.Need-enum-known-exploded
-enum-known-exploded c = search needs
-
-slice-aggregate-explode : tie.Need-slice-aggregate-explode
-slice-aggregate-explode c = search needs
-
-slice-aggregate-explode-2 : tie.Need-slice-aggregate-explode-2
-slice-aggregate-explode-2 c = search needs
-
-slice-aggregate-explode-3 : tie.Need-slice-aggregate-explode-3
-slice-aggregate-explode-3 c = search needs
-
-slice-aggregate-explode-4 : tie.Need-slice-aggregate-explode-4
-slice-aggregate-explode-4 c = search needs
-
-slice-aggregate-explode-5 : tie.Need-slice-aggregate-explode-5
-slice-aggregate-explode-5 c = search needs
-
-slice-aggregate-explode-6 : tie.Need-slice-aggregate-explode-6
-slice-aggregate-explode-6 c = search needs
-
 explode-requires : tie.Need-explode-requires
 explode-requires c κs =
     let s = c .before .before .before .before .before .before .before .before .before .before .before .before .before .before .before .before .before .before .before .before .before .before .before .before .before .before .before .before .before .before .before .before .before in
@@ -108,18 +51,6 @@ returns c =
     let e = not-understood (requestOf (now (s .args .request))) (sym (ap requestSays (c .before .why .given .1)) ∙ c .before .before .before .before .before .before .before .read-request .ensures .0) in
     (rw (s .pre, e), rw (s .pre, e))
 
-same-length : tie.Need-same-length
-same-length c = search needs
-
-same-length-2 : tie.Need-same-length-2
-same-length-2 c = search needs
-
-same-length-3 : tie.Need-same-length-3
-same-length-3 c = search needs
-
-same-length-4 : tie.Need-same-length-4
-same-length-4 c = search needs
-
 returns-2 : tie.Need-returns-2
 unfolding refined
 returns-2 c =
@@ -132,29 +63,10 @@ pub refine-sound-spec : {M : Type 1} → statement M
 refine-sound-spec =
     tie.close
     (tie.spec
-    places-requires
-    places-requires-2
-    indices-requires
-    amounts-requires
-    places-requires-3
-    places-requires-4
-    slice-aggregate-read-request
-    slice-aggregate-read-request-2
-    slice-aggregate-read-request-3
-    slice-aggregate-read-request-4
-    read-request-requires
-    enum-known-why
-    enum-known-exploded
-    slice-aggregate-explode
-    slice-aggregate-explode-2
-    slice-aggregate-explode-3
-    slice-aggregate-explode-4
-    slice-aggregate-explode-5
-    slice-aggregate-explode-6
+    (λ c κs. search needs) (λ c κs. search needs) (λ c κs. search needs) (λ c κs. search needs) (λ c κs. search needs) (λ c κs. search needs)
+    (λ c. search needs) (λ c. search needs) (λ c. search needs) (λ c. search needs) (λ c κs. search needs) (λ c. search needs) (λ c. search needs)
+    (λ c. search needs) (λ c. search needs) (λ c. search needs) (λ c. search needs) (λ c. search needs) (λ c. search needs)
     explode-requires
     returns
-    same-length
-    same-length-2
-    same-length-3
-    same-length-4
+    (λ c. search needs) (λ c. search needs) (λ c. search needs) (λ c. search needs)
     returns-2)

@@ -24,32 +24,8 @@ Inv-loop id count ids entries exploded i₀ i = (i ≤ entries) × ((groups valu
 abbrev μ-loop : tie.MeasureT-loop
 μ-loop id count ids entries exploded i₀ i = entries - i
 
-loop-holds : tie.Need-loop-holds Inv-loop μ-loop
-loop-holds c = (omega arith, λ g v. ap (someEntry _) (sym (listed-all (now (c .before .before .args .ids)) v (c .before .before .args .entries))))
-
-mul-id-taken : tie.Need-mul-id-taken Inv-loop μ-loop
-mul-id-taken c = omega arith
-
-shared-slice-read-id-taken : tie.Need-shared-slice-read-id-taken Inv-loop μ-loop
-shared-slice-read-id-taken c = omega arith
-
-id-taken-requires : tie.Need-id-taken-requires Inv-loop μ-loop
-id-taken-requires c κs = omega arith
-
-returns : tie.Need-returns Inv-loop μ-loop
-returns c = λ g v. sym ((c .before .before .before .before .loop .inv .1) g v ∙ some-here _ _ v _ _ (c .before .before .before .loop-test .taken) (sym ((c .before .id-taken .ensures) g v) ∙ c .if1 .taken))
-
-add-i : tie.Need-add-i Inv-loop μ-loop
-add-i c = omega arith
-
-loop-less : tie.Need-loop-less Inv-loop μ-loop
-loop-less c = omega arith
-
 loop-again : tie.Need-loop-again Inv-loop μ-loop
 loop-again c = (omega arith, λ g v. (c .before .before .before .before .loop .inv .1) g v ∙ some-past _ _ v _ _ (c .before .before .before .loop-test .taken) (sym ((c .before .id-taken .ensures) g v) ∙ c .if1 .left))
-
-returns-2 : tie.Need-returns-2 Inv-loop μ-loop
-returns-2 c = λ g v. sym ((c .before .loop .inv .1) g v ∙ some-none _ _ v _ _ (c .loop-test .left))
 
 pub some-id-taken-spec : {M : Type 1} → statement M
 some-id-taken-spec =
@@ -57,12 +33,12 @@ some-id-taken-spec =
     (tie.spec
     Inv-loop
     μ-loop
-    loop-holds
-    mul-id-taken
-    shared-slice-read-id-taken
-    id-taken-requires
-    returns
-    add-i
-    loop-less
+    (λ c. (omega arith, λ g v. ap (someEntry _) (sym (listed-all (now (c .before .before .args .ids)) v (c .before .before .args .entries)))))
+    (λ c. omega arith)
+    (λ c. omega arith)
+    (λ c κs. omega arith)
+    (λ c. λ g v. sym ((c .before .before .before .before .loop .inv .1) g v ∙ some-here _ _ v _ _ (c .before .before .before .loop-test .taken) (sym ((c .before .id-taken .ensures) g v) ∙ c .if1 .taken)))
+    (λ c. omega arith)
+    (λ c. omega arith)
     loop-again
-    returns-2)
+    (λ c. λ g v. sym ((c .before .loop .inv .1) g v ∙ some-none _ _ v _ _ (c .loop-test .left))))

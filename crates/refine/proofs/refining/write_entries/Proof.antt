@@ -71,17 +71,8 @@ mul-new-3 c = let g = good-at (c .before .before .before .before .before .before
 slice-read-new-3 : tie.Need-slice-read-new-3
 slice-read-new-3 c = let g = good-at (c .before .before .before .before .before .before .before .before .before .before .before .before .before) in let l = g .lengths in omega (arith, g .most, l .in-q, c .before .before .before .before .before .before .before .before .before .before .before .before .before .pre .1 .1 .0 .1)
 
-new-requires : tie.Need-new-requires
-new-requires c κs = search needs
-
-slice-relend-prefix-number-trees : tie.Need-slice-relend-prefix-number-trees
-slice-relend-prefix-number-trees c = search needs
-
 slice-aggregate-number-trees : tie.Need-slice-aggregate-number-trees
 slice-aggregate-number-trees c = let s = c .before .before .before .before .before .before .before .before .before .before .before .before .before .before .before in sym (length-take-le (s .args .entries) (now (s .args .new-l)) (omega (arith, s .pre .0, s .pre .1 .1 .1 .2 .entries-most)))
-
-slice-relend-prefix-number-trees-2 : tie.Need-slice-relend-prefix-number-trees-2
-slice-relend-prefix-number-trees-2 c = search needs
 
 slice-aggregate-number-trees-2 : tie.Need-slice-aggregate-number-trees-2
 slice-aggregate-number-trees-2 c = let s = c .before .before .before .before .before .before .before .before .before .before .before .before .before .before .before .before in sym (length-take-le (s .args .entries) (now (s .args .new-r)) (omega (arith, s .pre .0, s .pre .1 .1 .1 .2 .entries-most)))
@@ -108,24 +99,6 @@ place-requires-3 c κs = let s = c .before .before .before .before .before .befo
 place-requires-4 : tie.Need-place-requires-4
 place-requires-4 c κs = let s = c .before .before .before .before .before .before .before .before .before .before .before .before .before .before .before .before .before .before .before .before .before .before .before .before .before .before .before .before .before .before .before .before .before .before .before .before in let w = s .pre .1 .1 .1 .2 in ((omega (arith, w .roomy .in-ids, w .entries-most), omega (arith, w .roomy .in-quotas, w .entries-most)), asks s (now (s .args .q)) _ (good-at s .lengths .in-q))
 
-same-length : tie.Need-same-length
-same-length c = search needs
-
-same-length-2 : tie.Need-same-length-2
-same-length-2 c = search needs
-
-same-length-3 : tie.Need-same-length-3
-same-length-3 c = search needs
-
-same-length-4 : tie.Need-same-length-4
-same-length-4 c = search needs
-
-same-length-5 : tie.Need-same-length-5
-same-length-5 c = search needs
-
-same-length-6 : tie.Need-same-length-6
-same-length-6 c = search needs
-
 returns : tie.Need-returns
 returns c =
     λ a n told ok.
@@ -151,20 +124,14 @@ write-entries-spec =
     slice-read-new-2
     mul-new-3
     slice-read-new-3
-    new-requires
-    slice-relend-prefix-number-trees
+    (λ c κs. search needs) (λ c. search needs)
     slice-aggregate-number-trees
-    slice-relend-prefix-number-trees-2
+    (λ c. search needs)
     slice-aggregate-number-trees-2
     number-trees-requires
     place-requires
     place-requires-2
     place-requires-3
     place-requires-4
-    same-length
-    same-length-2
-    same-length-3
-    same-length-4
-    same-length-5
-    same-length-6
+    (λ c. search needs) (λ c. search needs) (λ c. search needs) (λ c. search needs) (λ c. search needs) (λ c. search needs)
     returns)

@@ -7,15 +7,6 @@ use borrow.Author.Needs.{needs}
 use Rattle.stored.proofs.reading.read_through.Statement.{statement}
 use Rattle.stored.proofs.reading.read_through.Tie as tie
 
-draw-rows-requires : tie.Need-draw-rows-requires
-draw-rows-requires c κs = search needs
-
-enum-known-why : tie.Need-enum-known-why
-enum-known-why c = search needs
-
-enum-told : tie.Need-enum-told
-enum-told c = search needs
-
 copy-rows-requires : tie.Need-copy-rows-requires
 copy-rows-requires c κs =
     let d = c .before .before .before .before .before .before .before .before .before .before in
@@ -26,46 +17,10 @@ copy-rows-requires c κs =
       record { in-id = omega (arith, w .in-id, m); in-l = omega (arith, w .in-l, m); in-r = omega (arith, w .in-r, m); in-q = omega (arith, w .in-q, m) },
     )
 
-same-length : tie.Need-same-length
-same-length c = search needs
-
-same-length-2 : tie.Need-same-length-2
-same-length-2 c = search needs
-
-same-length-3 : tie.Need-same-length-3
-same-length-3 c = search needs
-
-same-length-4 : tie.Need-same-length-4
-same-length-4 c = search needs
-
 returns : tie.Need-returns
 returns c =
     let m = c .before .before .before .before .before .before .before .before .before .before .before in
     none-read _ (drawn-refused (rowsToEnd _ _ _) (m .draw-rows .ensures .0) (c .before .why .given .1))
-
-same-length-5 : tie.Need-same-length-5
-same-length-5 c = search needs
-
-same-length-6 : tie.Need-same-length-6
-same-length-6 c = search needs
-
-same-length-7 : tie.Need-same-length-7
-same-length-7 c = search needs
-
-same-length-8 : tie.Need-same-length-8
-same-length-8 c = search needs
-
-same-length-9 : tie.Need-same-length-9
-same-length-9 c = search needs
-
-same-length-10 : tie.Need-same-length-10
-same-length-10 c = search needs
-
-same-length-11 : tie.Need-same-length-11
-same-length-11 c = search needs
-
-same-length-12 : tie.Need-same-length-12
-same-length-12 c = search needs
 
 returns-2 : tie.Need-returns-2
 returns-2 c =
@@ -78,21 +33,10 @@ pub read-through-spec : {M : Type 1} → statement M
 read-through-spec =
     tie.close
     (tie.spec
-    draw-rows-requires
-    enum-known-why
-    enum-told
+    (λ c κs. search needs) (λ c. search needs) (λ c. search needs)
     copy-rows-requires
-    same-length
-    same-length-2
-    same-length-3
-    same-length-4
+    (λ c. search needs) (λ c. search needs) (λ c. search needs) (λ c. search needs)
     returns
-    same-length-5
-    same-length-6
-    same-length-7
-    same-length-8
-    same-length-9
-    same-length-10
-    same-length-11
-    same-length-12
+    (λ c. search needs) (λ c. search needs) (λ c. search needs) (λ c. search needs) (λ c. search needs) (λ c. search needs) (λ c. search needs)
+    (λ c. search needs)
     returns-2)

@@ -6,42 +6,6 @@ use borrow.Author.Needs.{needs}
 use Rattle.stored.proofs.reading.row_at.Statement.{statement}
 use Rattle.stored.proofs.reading.row_at.Tie as tie
 
-number-at-requires : tie.Need-number-at-requires
-number-at-requires c κs = search needs
-
-enum-known-why : tie.Need-enum-known-why
-enum-known-why c = search needs
-
-enum-known-id : tie.Need-enum-known-id
-enum-known-id c = search needs
-
-number-at-requires-2 : tie.Need-number-at-requires-2
-number-at-requires-2 c κs = search needs
-
-enum-known-why-2 : tie.Need-enum-known-why-2
-enum-known-why-2 c = search needs
-
-enum-known-l : tie.Need-enum-known-l
-enum-known-l c = search needs
-
-number-at-requires-3 : tie.Need-number-at-requires-3
-number-at-requires-3 c κs = search needs
-
-enum-known-why-3 : tie.Need-enum-known-why-3
-enum-known-why-3 c = search needs
-
-enum-known-r : tie.Need-enum-known-r
-enum-known-r c = search needs
-
-number-at-requires-4 : tie.Need-number-at-requires-4
-number-at-requires-4 c κs = search needs
-
-enum-known-why-4 : tie.Need-enum-known-why-4
-enum-known-why-4 c = search needs
-
-enum-known-q : tie.Need-enum-known-q
-enum-known-q c = search needs
-
 returns : tie.Need-returns
 unfolding rowRead
 returns c = rw (sym (c .before .before .before .number-at .ensures) ∙ ap drawnSays (c .before .why .given .1))
@@ -96,18 +60,8 @@ pub row-at-spec : {M : Type 1} → statement M
 row-at-spec =
     tie.close
     (tie.spec
-    number-at-requires
-    enum-known-why
-    enum-known-id
-    number-at-requires-2
-    enum-known-why-2
-    enum-known-l
-    number-at-requires-3
-    enum-known-why-3
-    enum-known-r
-    number-at-requires-4
-    enum-known-why-4
-    enum-known-q
+    (λ c κs. search needs) (λ c. search needs) (λ c. search needs) (λ c κs. search needs) (λ c. search needs) (λ c. search needs) (λ c κs. search needs)
+    (λ c. search needs) (λ c. search needs) (λ c κs. search needs) (λ c. search needs) (λ c. search needs)
     returns
     returns-2
     returns-3

@@ -6,24 +6,6 @@ use borrow.Author.Needs.{needs}
 use Rattle.stored.proofs.storing.row_length.Statement.{statement}
 use Rattle.stored.proofs.storing.row_length.Tie as tie
 
-number-length-requires : tie.Need-number-length-requires
-number-length-requires c κs = search needs
-
-number-length-requires-2 : tie.Need-number-length-requires-2
-number-length-requires-2 c κs = search needs
-
-add-result : tie.Need-add-result
-add-result c = let a = c .before .before .args in omega (arith, number-count (a .id), number-count (a .l))
-
-number-length-requires-3 : tie.Need-number-length-requires-3
-number-length-requires-3 c κs = search needs
-
-add-result-2 : tie.Need-add-result-2
-add-result-2 c = let a = c .before .before .before .args in omega (arith, number-count (a .id), number-count (a .l), number-count (a .r))
-
-number-length-requires-4 : tie.Need-number-length-requires-4
-number-length-requires-4 c κs = search needs
-
 add-result-3 : tie.Need-add-result-3
 add-result-3 c =
     let a = c .before .before .before .before .args in
@@ -38,11 +20,10 @@ pub row-length-spec : {M : Type 1} → statement M
 row-length-spec =
     tie.close
     (tie.spec
-    number-length-requires
-    number-length-requires-2
-    add-result
-    number-length-requires-3
-    add-result-2
-    number-length-requires-4
+    (λ c κs. search needs) (λ c κs. search needs)
+    (λ c. let a = c .before .before .args in omega (arith, number-count (a .id), number-count (a .l)))
+    (λ c κs. search needs)
+    (λ c. let a = c .before .before .before .args in omega (arith, number-count (a .id), number-count (a .l), number-count (a .r)))
+    (λ c κs. search needs)
     add-result-3
     returns)

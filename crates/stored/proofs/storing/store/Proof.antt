@@ -6,15 +6,6 @@ use borrow.Author.Needs.{needs}
 use Rattle.stored.proofs.storing.store.Statement.{statement}
 use Rattle.stored.proofs.storing.store.Tie as tie
 
-check-columns-requires : tie.Need-check-columns-requires
-check-columns-requires c κs = search needs
-
-enum-known-why : tie.Need-enum-known-why
-enum-known-why c = search needs
-
-enum-told : tie.Need-enum-told
-enum-told c = search needs
-
 store-rows-requires : tie.Need-store-rows-requires
 store-rows-requires c κs =
     let d = c .before in
@@ -28,9 +19,6 @@ returns c =
     let e = unsound _ _ (c .before .before .before .check-columns .ensures) (c .before .why .given .1) in
     (rw e, rw e)
 
-same-length : tie.Need-same-length
-same-length c = search needs
-
 returns-2 : tie.Need-returns-2
 unfolding storeAnswer storeBuffer
 returns-2 c =
@@ -43,10 +31,8 @@ pub store-spec : {M : Type 1} → statement M
 store-spec =
     tie.close
     (tie.spec
-    check-columns-requires
-    enum-known-why
-    enum-told
+    (λ c κs. search needs) (λ c. search needs) (λ c. search needs)
     store-rows-requires
     returns
-    same-length
+    (λ c. search needs)
     returns-2)

@@ -17,15 +17,6 @@ use Rattle.stored.proofs.storing.store_rows.Tie as tie
 abbrev table : tie.Start → Columns
 table c = let a = c .args in columns (now (a .id)) (now (a .l)) (now (a .r)) (now (a .q))
 
-cast-number-length : tie.Need-cast-number-length
-cast-number-length c = search needs
-
-number-length-requires : tie.Need-number-length-requires
-number-length-requires c κs = search needs
-
-rows-length-requires : tie.Need-rows-length-requires
-rows-length-requires c κs = search needs
-
 add-whole : tie.Need-add-whole
 add-whole c =
     let s = c .before .before .before .before .before .before .before in
@@ -35,18 +26,6 @@ returns : tie.Need-returns
 returns c =
     let s = c .before .before .before .before .before .before .before .before in
     kept (now (s .args .buffer)) 0 (tableBytes (rows (table s) (s .args .count))) (omega (arith, table-count (table s) (s .args .count)))
-
-cast-write-number : tie.Need-cast-write-number
-cast-write-number c = search needs
-
-write-number-requires : tie.Need-write-number-requires
-write-number-requires c κs = search needs
-
-write-rows-requires : tie.Need-write-rows-requires
-write-rows-requires c κs = search needs
-
-same-length : tie.Need-same-length
-same-length c = search needs
 
 returns-2 : tie.Need-returns-2
 returns-2 c =
@@ -65,13 +44,8 @@ pub store-rows-spec : {M : Type 1} → statement M
 store-rows-spec =
     tie.close
     (tie.spec
-    cast-number-length
-    number-length-requires
-    rows-length-requires
+    (λ c. search needs) (λ c κs. search needs) (λ c κs. search needs)
     add-whole
     returns
-    cast-write-number
-    write-number-requires
-    write-rows-requires
-    same-length
+    (λ c. search needs) (λ c κs. search needs) (λ c κs. search needs) (λ c. search needs)
     returns-2)

@@ -11,47 +11,11 @@ use Rattle.stored.proofs.storing.write_row.Tie as tie
 abbrev row : tie.Start → Row
 row c = let a = c .args in record { id = a .id; l = a .l; r = a .r; q = a .q }
 
-number-length-requires : tie.Need-number-length-requires
-number-length-requires c κs = search needs
-
-add-l-at : tie.Need-add-l-at
-add-l-at c = let s = c .before .before in omega (arith, row-count (row s))
-
-number-length-requires-2 : tie.Need-number-length-requires-2
-number-length-requires-2 c κs = search needs
-
-add-r-at : tie.Need-add-r-at
-add-r-at c = let s = c .before .before .before in omega (arith, row-count (row s))
-
-number-length-requires-3 : tie.Need-number-length-requires-3
-number-length-requires-3 c κs = search needs
-
-add-q-at : tie.Need-add-q-at
-add-q-at c = let s = c .before .before .before .before in omega (arith, row-count (row s))
-
-write-number-requires : tie.Need-write-number-requires
-write-number-requires c κs = search needs
-
-write-number-requires-2 : tie.Need-write-number-requires-2
-write-number-requires-2 c κs = search needs
-
-write-number-requires-3 : tie.Need-write-number-requires-3
-write-number-requires-3 c κs = search needs
-
-write-number-requires-4 : tie.Need-write-number-requires-4
-write-number-requires-4 c κs = search needs
-
-number-length-requires-4 : tie.Need-number-length-requires-4
-number-length-requires-4 c κs = search needs
-
 add-result : tie.Need-add-result
 add-result c =
     let m = c .before .before .before .before .before .before .before .before .before .before .before .before .before .before .before .before .before in
     let s = m .before .before .before .before in
     omega (arith, row-count (row s), c .number-length4 .ensures, m .number-length3 .ensures, m .before .number-length2 .ensures, m .before .before .number-length .ensures, s .pre, s .good)
-
-same-length : tie.Need-same-length
-same-length c = search needs
 
 returns : tie.Need-returns
 returns c =
@@ -70,17 +34,13 @@ pub write-row-spec : {M : Type 1} → statement M
 write-row-spec =
     tie.close
     (tie.spec
-    number-length-requires
-    add-l-at
-    number-length-requires-2
-    add-r-at
-    number-length-requires-3
-    add-q-at
-    write-number-requires
-    write-number-requires-2
-    write-number-requires-3
-    write-number-requires-4
-    number-length-requires-4
+    (λ c κs. search needs)
+    (λ c. let s = c .before .before in omega (arith, row-count (row s)))
+    (λ c κs. search needs)
+    (λ c. let s = c .before .before .before in omega (arith, row-count (row s)))
+    (λ c κs. search needs)
+    (λ c. let s = c .before .before .before .before in omega (arith, row-count (row s)))
+    (λ c κs. search needs) (λ c κs. search needs) (λ c κs. search needs) (λ c κs. search needs) (λ c κs. search needs)
     add-result
-    same-length
+    (λ c. search needs)
     returns)

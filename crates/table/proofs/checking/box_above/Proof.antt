@@ -18,72 +18,15 @@ Inv-loop id l r q i own j₀ j = (own ≡ boxOf (getD l i 0) (getD r i 0) (getD 
 abbrev μ-loop : tie.MeasureT-loop
 μ-loop id l r q i own j₀ j = i - j
 
-mul-new : tie.Need-mul-new Inv-loop μ-loop
-mul-new c = omega arith
-
-shared-slice-read-new : tie.Need-shared-slice-read-new Inv-loop μ-loop
-shared-slice-read-new c = omega arith
-
-mul-new-2 : tie.Need-mul-new-2 Inv-loop μ-loop
-mul-new-2 c = omega arith
-
-shared-slice-read-new-2 : tie.Need-shared-slice-read-new-2 Inv-loop μ-loop
-shared-slice-read-new-2 c = omega arith
-
-mul-new-3 : tie.Need-mul-new-3 Inv-loop μ-loop
-mul-new-3 c = omega arith
-
-shared-slice-read-new-3 : tie.Need-shared-slice-read-new-3 Inv-loop μ-loop
-shared-slice-read-new-3 c = omega arith
-
-new-requires : tie.Need-new-requires Inv-loop μ-loop
-new-requires c κs = tt
-
-loop-holds : tie.Need-loop-holds Inv-loop μ-loop
-loop-holds c = (c .new .ensures, omega arith, none-yet _ _)
-
-mul-new-4 : tie.Need-mul-new-4 Inv-loop μ-loop
-mul-new-4 c = omega arith
-
-shared-slice-read-new-4 : tie.Need-shared-slice-read-new-4 Inv-loop μ-loop
-shared-slice-read-new-4 c = omega arith
-
-mul-new-5 : tie.Need-mul-new-5 Inv-loop μ-loop
-mul-new-5 c = omega arith
-
-shared-slice-read-new-5 : tie.Need-shared-slice-read-new-5 Inv-loop μ-loop
-shared-slice-read-new-5 c = omega arith
-
-mul-new-6 : tie.Need-mul-new-6 Inv-loop μ-loop
-mul-new-6 c = omega arith
-
-shared-slice-read-new-6 : tie.Need-shared-slice-read-new-6 Inv-loop μ-loop
-shared-slice-read-new-6 c = omega arith
-
-new-requires-2 : tie.Need-new-requires-2 Inv-loop μ-loop
-new-requires-2 c κs = tt
-
-disjoint-requires : tie.Need-disjoint-requires Inv-loop μ-loop
-disjoint-requires c κs = tt
-
 returns : tie.Need-returns Inv-loop μ-loop
 returns c =
     let inv = c .before .before .before .before .before .before .before .loop .inv in
     sym (some-found _ (c .before .before .before .before .before .before .before .loop .j) _ _ (c .before .before .before .before .before .before .loop-test .taken) (meets _ _ (c .before .disjoint .ensures) (c .before .before .new2 .ensures) (inv .0) (c .if1 .taken)))
 
-add-j : tie.Need-add-j Inv-loop μ-loop
-add-j c = omega arith
-
-loop-less : tie.Need-loop-less Inv-loop μ-loop
-loop-less c = omega arith
-
 loop-again : tie.Need-loop-again Inv-loop μ-loop
 loop-again c =
     let inv = c .before .before .before .before .before .before .before .loop .inv in
     (inv .0, omega arith, none-more _ (c .before .before .before .before .before .before .before .loop .j) _ (inv .2) (clear _ _ (c .before .disjoint .ensures) (c .before .before .new2 .ensures) (inv .0) (c .if1 .left)))
-
-returns-2 : tie.Need-returns-2 Inv-loop μ-loop
-returns-2 c = none-all _ (c .before .loop .j) _ _ (c .before .loop .inv .1) (c .loop-test .left) (c .before .loop .inv .2)
 
 pub box-above-spec : {M : Type 1} → statement M
 box-above-spec =
@@ -91,24 +34,24 @@ box-above-spec =
     (tie.spec
     Inv-loop
     μ-loop
-    mul-new
-    shared-slice-read-new
-    mul-new-2
-    shared-slice-read-new-2
-    mul-new-3
-    shared-slice-read-new-3
-    new-requires
-    loop-holds
-    mul-new-4
-    shared-slice-read-new-4
-    mul-new-5
-    shared-slice-read-new-5
-    mul-new-6
-    shared-slice-read-new-6
-    new-requires-2
-    disjoint-requires
+    (λ c. omega arith)
+    (λ c. omega arith)
+    (λ c. omega arith)
+    (λ c. omega arith)
+    (λ c. omega arith)
+    (λ c. omega arith)
+    (λ c κs. tt)
+    (λ c. (c .new .ensures, omega arith, none-yet _ _))
+    (λ c. omega arith)
+    (λ c. omega arith)
+    (λ c. omega arith)
+    (λ c. omega arith)
+    (λ c. omega arith)
+    (λ c. omega arith)
+    (λ c κs. tt)
+    (λ c κs. tt)
     returns
-    add-j
-    loop-less
+    (λ c. omega arith)
+    (λ c. omega arith)
     loop-again
-    returns-2)
+    (λ c. none-all _ (c .before .loop .j) _ _ (c .before .loop .inv .1) (c .loop-test .left) (c .before .loop .inv .2)))

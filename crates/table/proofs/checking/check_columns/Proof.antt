@@ -6,22 +6,13 @@ use borrow.Author.Needs.{needs}
 use Rattle.table.proofs.checking.check_columns.Statement.{statement}
 use Rattle.table.proofs.checking.check_columns.Tie as tie
 
-lengths-bad-requires : tie.Need-lengths-bad-requires
-lengths-bad-requires c κs = search needs
-
 returns : tie.Need-returns
 unfolding checked
 returns c = rw (sym (c .before .lengths-bad .ensures) ∙ c .if1 .taken)
 
-count-bad-requires : tie.Need-count-bad-requires
-count-bad-requires c κs = search needs
-
 returns-2 : tie.Need-returns-2
 unfolding checked
 returns-2 c = rw (sym (c .before .before .before .lengths-bad .ensures) ∙ c .before .before .if1 .left, sym (c .before .count-bad .ensures) ∙ c .if2 .taken)
-
-check-rows-requires : tie.Need-check-rows-requires
-check-rows-requires c κs = holds-count (lengths-good _ (sym (c .before .before .before .lengths-bad .ensures) ∙ c .before .before .if1 .left)) (count-good _ _ (sym (c .before .count-bad .ensures) ∙ c .if2 .left) .1)
 
 returns-3 : tie.Need-returns-3
 unfolding checked
@@ -30,4 +21,10 @@ returns-3 c = rw (sym (c .before .before .before .before .lengths-bad .ensures) 
 pub check-columns-spec : {M : Type 1} → statement M
 check-columns-spec =
     tie.close
-    (tie.spec lengths-bad-requires returns count-bad-requires returns-2 check-rows-requires returns-3)
+    (tie.spec
+    (λ c κs. search needs)
+    returns
+    (λ c κs. search needs)
+    returns-2
+    (λ c κs. holds-count (lengths-good _ (sym (c .before .before .before .lengths-bad .ensures) ∙ c .before .before .if1 .left)) (count-good _ _ (sym (c .before .count-bad .ensures) ∙ c .if2 .left) .1))
+    returns-3)

@@ -5,15 +5,9 @@ use borrow.Author.Needs.{needs}
 use Rattle.table.proofs.checking.check_rows.Statement.{statement}
 use Rattle.table.proofs.checking.check_rows.Tie as tie
 
-some-value-bad-requires : tie.Need-some-value-bad-requires
-some-value-bad-requires c κs = search needs
-
 returns : tie.Need-returns
 unfolding soundRows
 returns c = rw (sym (c .before .some-value-bad .ensures) ∙ c .if1 .taken)
-
-no-pair-requires : tie.Need-no-pair-requires
-no-pair-requires c κs = (c .before .before .before .before .before .before .pre, sym (c .before .some-value-bad .ensures) ∙ c .if1 .left)
 
 returns-2 : tie.Need-returns-2
 unfolding soundRows
@@ -21,15 +15,9 @@ returns-2 c =
     let n = c .before .no-pair .ensures (c .if2 .taken) in
     rw (sym (c .before .before .before .some-value-bad .ensures) ∙ c .before .before .if1 .left, n .ids, n .ranges)
 
-some-ids-same-requires : tie.Need-some-ids-same-requires
-some-ids-same-requires c κs = search needs
-
 returns-3 : tie.Need-returns-3
 unfolding soundRows
 returns-3 c = rw (sym (c .before .before .before .before .before .some-value-bad .ensures) ∙ c .before .before .before .before .if1 .left, sym (c .before .some-ids-same .ensures) ∙ c .if3 .taken)
-
-some-ranges-meet-requires : tie.Need-some-ranges-meet-requires
-some-ranges-meet-requires c κs = search needs
 
 returns-4 : tie.Need-returns-4
 unfolding soundRows
@@ -43,12 +31,12 @@ pub check-rows-spec : {M : Type 1} → statement M
 check-rows-spec =
     tie.close
     (tie.spec
-    some-value-bad-requires
+    (λ c κs. search needs)
     returns
-    no-pair-requires
+    (λ c κs. (c .before .before .before .before .before .before .pre, sym (c .before .some-value-bad .ensures) ∙ c .if1 .left))
     returns-2
-    some-ids-same-requires
+    (λ c κs. search needs)
     returns-3
-    some-ranges-meet-requires
+    (λ c κs. search needs)
     returns-4
     returns-5)

@@ -16,37 +16,16 @@ Inv-loop id l r q count i₀ i = (i ≤ count) × (somePair sameId (rows (column
 abbrev μ-loop : tie.MeasureT-loop
 μ-loop id l r q count i₀ i = count - i
 
-loop-holds : tie.Need-loop-holds Inv-loop μ-loop
-loop-holds c = (omega arith, no-pair-yet _ _)
-
-id-above-requires : tie.Need-id-above-requires Inv-loop μ-loop
-id-above-requires c κs = holds-less (c .before .before .before .before .before .before .pre) (omega arith)
-
-returns : tie.Need-returns Inv-loop μ-loop
-returns c = sym (pair-found _ (c .before .before .before .loop .i) _ _ (c .before .before .loop-test .taken) (sym (c .before .id-above .ensures) ∙ c .if1 .taken))
-
-add-i : tie.Need-add-i Inv-loop μ-loop
-add-i c = omega arith
-
-loop-less : tie.Need-loop-less Inv-loop μ-loop
-loop-less c = omega arith
-
-loop-again : tie.Need-loop-again Inv-loop μ-loop
-loop-again c = (omega arith, no-pair-more _ (c .before .before .before .loop .i) _ (c .before .before .before .loop .inv .1) (sym (c .before .id-above .ensures) ∙ c .if1 .left))
-
-returns-2 : tie.Need-returns-2 Inv-loop μ-loop
-returns-2 c = no-pair-all _ (c .before .loop .i) _ _ (c .before .loop .inv .0) (c .loop-test .left) (c .before .loop .inv .1)
-
 pub some-ids-same-spec : {M : Type 1} → statement M
 some-ids-same-spec =
     tie.close
     (tie.spec
     Inv-loop
     μ-loop
-    loop-holds
-    id-above-requires
-    returns
-    add-i
-    loop-less
-    loop-again
-    returns-2)
+    (λ c. (omega arith, no-pair-yet _ _))
+    (λ c κs. holds-less (c .before .before .before .before .before .before .pre) (omega arith))
+    (λ c. sym (pair-found _ (c .before .before .before .loop .i) _ _ (c .before .before .loop-test .taken) (sym (c .before .id-above .ensures) ∙ c .if1 .taken)))
+    (λ c. omega arith)
+    (λ c. omega arith)
+    (λ c. (omega arith, no-pair-more _ (c .before .before .before .loop .i) _ (c .before .before .before .loop .inv .1) (sym (c .before .id-above .ensures) ∙ c .if1 .left)))
+    (λ c. no-pair-all _ (c .before .loop .i) _ _ (c .before .loop .inv .0) (c .loop-test .left) (c .before .loop .inv .1)))

@@ -24,12 +24,6 @@ returns-4 : tie.Need-returns-4
 unfolding valueBad
 returns-4 c = rw (ne-eqb _ _ (c .before .before .before .if1 .left), ne-eqb _ _ (c .before .before .if2 .left), ne-eqb _ _ (c .before .if3 .left), eq-eqb _ _ (c .if4 .taken))
 
-sub-most : tie.Need-sub-most
-sub-most c = search needs
-
-sub-most-2 : tie.Need-sub-most-2
-sub-most-2 c = search needs
-
 returns-5 : tie.Need-returns-5
 unfolding valueBad
 returns-5 c =
@@ -76,8 +70,7 @@ value-bad-spec =
     returns-2
     returns-3
     returns-4
-    sub-most
-    sub-most-2
+    (λ c. search needs) (λ c. search needs)
     returns-5
     returns-6
     returns-7)

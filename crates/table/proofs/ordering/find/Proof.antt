@@ -14,15 +14,6 @@ Inv-loop id l r q count group i₀ i = (i ≤ count) × (rowOf (rows (columns id
 abbrev μ-loop : tie.MeasureT-loop
 μ-loop id l r q count group i₀ i = count - i
 
-loop-holds : tie.Need-loop-holds Inv-loop μ-loop
-loop-holds c = (omega arith, start _ _ _)
-
-mul-if1 : tie.Need-mul-if1 Inv-loop μ-loop
-mul-if1 c = omega arith
-
-shared-slice-read-if1 : tie.Need-shared-slice-read-if1 Inv-loop μ-loop
-shared-slice-read-if1 c = omega arith
-
 returns : tie.Need-returns Inv-loop μ-loop
 returns c =
     let inv = c .before .before .before .loop .inv in
@@ -32,15 +23,6 @@ returns c =
       there = λ _. inv .1 ∙ here _ _ _ _ less (c .if1 .taken);
       missing = λ e. let z : ⊥ = omega arith in absurd z;
     }
-
-add-i : tie.Need-add-i Inv-loop μ-loop
-add-i c = omega arith
-
-loop-less : tie.Need-loop-less Inv-loop μ-loop
-loop-less c = omega arith
-
-loop-again : tie.Need-loop-again Inv-loop μ-loop
-loop-again c = (omega arith, c .before .before .before .loop .inv .1 ∙ past _ _ _ _ (c .before .before .loop-test .taken) (c .if1 .left))
 
 returns-2 : tie.Need-returns-2 Inv-loop μ-loop
 returns-2 c =
@@ -57,11 +39,11 @@ find-spec =
     (tie.spec
     Inv-loop
     μ-loop
-    loop-holds
-    mul-if1
-    shared-slice-read-if1
+    (λ c. (omega arith, start _ _ _))
+    (λ c. omega arith)
+    (λ c. omega arith)
     returns
-    add-i
-    loop-less
-    loop-again
+    (λ c. omega arith)
+    (λ c. omega arith)
+    (λ c. (omega arith, c .before .before .before .loop .inv .1 ∙ past _ _ _ _ (c .before .before .loop-test .taken) (c .if1 .left)))
     returns-2)

@@ -5,12 +5,6 @@ use borrow.Author.Needs.{needs}
 use Rattle.table.proofs.ordering.is_subgroup.Statement.{statement}
 use Rattle.table.proofs.ordering.is_subgroup.Tie as tie
 
-at-most-requires : tie.Need-at-most-requires
-at-most-requires c κs = search needs
-
-at-most-requires-2 : tie.Need-at-most-requires-2
-at-most-requires-2 c κs = search needs
-
 returns : tie.Need-returns
 unfolding subgroup
 returns c = rw (sym (c .before .before .at-most .ensures) ∙ c .before .if1 .taken) (c .at-most2 .ensures)
@@ -20,4 +14,9 @@ unfolding subgroup
 returns-2 c = rw (sym (c .before .at-most .ensures) ∙ c .if1 .left)
 
 pub is-subgroup-spec : {M : Type 1} → statement M
-is-subgroup-spec = tie.close (tie.spec at-most-requires at-most-requires-2 returns returns-2)
+is-subgroup-spec =
+    tie.close
+    (tie.spec
+    (λ c κs. search needs) (λ c κs. search needs)
+    returns
+    returns-2)

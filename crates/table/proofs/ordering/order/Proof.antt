@@ -5,18 +5,6 @@ use borrow.Author.Needs.{needs}
 use Rattle.table.proofs.ordering.order.Statement.{statement}
 use Rattle.table.proofs.ordering.order.Tie as tie
 
-check-columns-requires : tie.Need-check-columns-requires
-check-columns-requires c κs = search needs
-
-enum-known-why : tie.Need-enum-known-why
-enum-known-why c = search needs
-
-enum-told : tie.Need-enum-told
-enum-told c = search needs
-
-order-in-requires : tie.Need-order-in-requires
-order-in-requires c κs = passed-holds (sound _ _ (c .before .before .check-columns .ensures) (c .enum-told .given .1) .0)
-
 returns : tie.Need-returns
 unfolding order
 returns c = rw (unsound _ _ (c .before .before .before .check-columns .ensures) (c .before .why .given .1))
@@ -28,4 +16,8 @@ returns-2 c = rw (sound _ _ (c .before .before .before .check-columns .ensures) 
 pub order-spec : {M : Type 1} → statement M
 order-spec =
     tie.close
-    (tie.spec check-columns-requires enum-known-why enum-told order-in-requires returns returns-2)
+    (tie.spec
+    (λ c κs. search needs) (λ c. search needs) (λ c. search needs)
+    (λ c κs. passed-holds (sound _ _ (c .before .before .check-columns .ensures) (c .enum-told .given .1) .0))
+    returns
+    returns-2)

@@ -8,39 +8,12 @@ use borrow.Author.Needs.{needs}
 use Rattle.zintukor.proofs.codes.written_code.Statement.{statement}
 use Rattle.zintukor.proofs.codes.written_code.Tie as tie
 
-enum-known-a : tie.Need-enum-known-a
-enum-known-a c = search needs
-
-cast-encoded : tie.Need-cast-encoded
-cast-encoded c = omega (arith, small-count _ (c .before .before .before .pre) (ap writtenSays (c .before .a .given .1)))
-
-encoded-requires : tie.Need-encoded-requires
-encoded-requires c κs = search needs
-
-enum-known-a-2 : tie.Need-enum-known-a-2
-enum-known-a-2 c = search needs
-
-number-requires : tie.Need-number-requires
-number-requires c κs = search needs
-
-encoded-requires-2 : tie.Need-encoded-requires-2
-encoded-requires-2 c κs = search needs
-
-returns : tie.Need-returns
-returns c = c .encoded .ensures ∙ sym (ap (λ x. countCode (writtenSays x)) (c .before .before .a .given .1))
-
-returns-2 : tie.Need-returns-2
-returns-2 c = c .encoded2 .ensures ∙ ap refusalCode (c .before .number .ensures) ∙ sym (ap (λ x. countCode (writtenSays x)) (c .before .before .before .a2 .given .1))
-
 pub written-code-spec : {M : Type 1} → statement M
 written-code-spec =
     tie.close
     (tie.spec
-    enum-known-a
-    cast-encoded
-    encoded-requires
-    enum-known-a-2
-    number-requires
-    encoded-requires-2
-    returns
-    returns-2)
+    (λ c. search needs)
+    (λ c. omega (arith, small-count _ (c .before .before .before .pre) (ap writtenSays (c .before .a .given .1))))
+    (λ c κs. search needs) (λ c. search needs) (λ c κs. search needs) (λ c κs. search needs)
+    (λ c. c .encoded .ensures ∙ sym (ap (λ x. countCode (writtenSays x)) (c .before .before .a .given .1)))
+    (λ c. c .encoded2 .ensures ∙ ap refusalCode (c .before .number .ensures) ∙ sym (ap (λ x. countCode (writtenSays x)) (c .before .before .before .a2 .given .1))))
