@@ -33,6 +33,22 @@ static void print_table(const struct table *t)
         printf("%u %u %u %u\n", (unsigned)t->id[i], (unsigned)t->l[i], (unsigned)t->r[i], (unsigned)t->q[i]);
 }
 
+/* Whether both tables have the same rows in use; if not, the first row that differs is printed. */
+static int same_table(const struct table *a, const struct table *b)
+{
+    size_t i;
+    if (a->count != b->count) {
+        printf("%u rows and %u rows\n", (unsigned)a->count, (unsigned)b->count);
+        return 0;
+    }
+    for (i = 0; i < a->count; i++)
+        if (a->id[i] != b->id[i] || a->l[i] != b->l[i] || a->r[i] != b->r[i] || a->q[i] != b->q[i]) {
+            printf("row %u differs\n", (unsigned)i);
+            return 0;
+        }
+    return 1;
+}
+
 static void print_order(const struct table *t, uint32_t first, uint32_t second)
 {
     uint64_t answer = zintukor_order(COLUMNS(t), t->count, first, second);
@@ -106,5 +122,8 @@ int main(void)
     }
     printf("stored in %u bytes\n", (unsigned)ZINTUKOR_VALUE(answer));
     take(&back, zintukor_read(COLUMNS(&back), buffer, ZINTUKOR_VALUE(answer)));
+    if (!same_table(&t, &back))
+        return 1;
+    printf("read back as the same table\n");
     return 0;
 }

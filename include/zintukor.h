@@ -35,6 +35,12 @@
 extern "C" {
 #endif
 
+/* The version of the library. */
+#define ZINTUKOR_VERSION_MAJOR 0
+#define ZINTUKOR_VERSION_MINOR 1
+#define ZINTUKOR_VERSION_PATCH 0
+#define ZINTUKOR_VERSION "0.1.0"
+
 /* The most rows that columns have. */
 #define ZINTUKOR_MOST_ROWS 256
 

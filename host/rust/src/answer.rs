@@ -2,13 +2,25 @@
 
 use crate::{Decision, Order, Refusal};
 
-const REFUSED: u32 = 0;
-const COUNT: u32 = 1;
+/// The kinds, by the names that include/zintukor.h has for them.
+mod kind {
+    pub(super) const REFUSED: u32 = 0;
+    pub(super) const COUNT: u32 = 1;
+    pub(super) const SAME: u32 = 2;
+    pub(super) const FIRST: u32 = 3;
+    pub(super) const SECOND: u32 = 4;
+    pub(super) const INCOMPARABLE: u32 = 5;
+    pub(super) const ON_OPEN: u32 = 6;
+    pub(super) const ON_UNTIL: u32 = 7;
+    pub(super) const ENDED: u32 = 8;
+    pub(super) const AHEAD: u32 = 9;
+    pub(super) const NEVER: u32 = 10;
+}
 
 /// The kind and the value, or the refusal.
 fn split(answer: u64) -> Result<(u32, u32), Refusal> {
     let (kind, value) = ((answer >> 32) as u32, answer as u32);
-    if kind != REFUSED {
+    if kind != kind::REFUSED {
         return Ok((kind, value));
     }
     match Refusal::from_number(value) {
@@ -26,7 +38,7 @@ fn unknown(answer: u64) -> ! {
 /// A count or a byte count.
 pub(crate) fn count(answer: u64) -> Result<usize, Refusal> {
     match split(answer)? {
-        (COUNT, value) => Ok(value as usize),
+        (kind::COUNT, value) => Ok(value as usize),
         _ => unknown(answer),
     }
 }
@@ -34,10 +46,10 @@ pub(crate) fn count(answer: u64) -> Result<usize, Refusal> {
 /// An order.
 pub(crate) fn order(answer: u64) -> Result<Order, Refusal> {
     match split(answer)? {
-        (2, 0) => Ok(Order::Same),
-        (3, 0) => Ok(Order::FirstIsSubgroup),
-        (4, 0) => Ok(Order::SecondIsSubgroup),
-        (5, 0) => Ok(Order::Incomparable),
+        (kind::SAME, 0) => Ok(Order::Same),
+        (kind::FIRST, 0) => Ok(Order::FirstIsSubgroup),
+        (kind::SECOND, 0) => Ok(Order::SecondIsSubgroup),
+        (kind::INCOMPARABLE, 0) => Ok(Order::Incomparable),
         _ => unknown(answer),
     }
 }
@@ -45,11 +57,11 @@ pub(crate) fn order(answer: u64) -> Result<Order, Refusal> {
 /// A decision.
 pub(crate) fn decision(answer: u64) -> Result<Decision, Refusal> {
     match split(answer)? {
-        (6, 0) => Ok(Decision::OnOpen),
-        (7, day) => Ok(Decision::OnUntil(day)),
-        (8, day) => Ok(Decision::Ended(day)),
-        (9, day) => Ok(Decision::Ahead(day)),
-        (10, 0) => Ok(Decision::Never),
+        (kind::ON_OPEN, 0) => Ok(Decision::OnOpen),
+        (kind::ON_UNTIL, day) => Ok(Decision::OnUntil(day)),
+        (kind::ENDED, day) => Ok(Decision::Ended(day)),
+        (kind::AHEAD, day) => Ok(Decision::Ahead(day)),
+        (kind::NEVER, 0) => Ok(Decision::Never),
         _ => unknown(answer),
     }
 }
@@ -60,6 +72,29 @@ mod tests {
 
     const fn answer(kind: u64, value: u64) -> u64 {
         kind * 4_294_967_296 + value
+    }
+
+    /// The kinds have the names and numbers of the header and of the engine.
+    #[test]
+    fn one_name_for_each_kind() {
+        let header = include_str!("../../../include/zintukor.h");
+        let engine = include_str!("../../../crates/zintukor/src/codes.rt");
+        for (name, number) in [
+            ("REFUSED", kind::REFUSED),
+            ("COUNT", kind::COUNT),
+            ("SAME", kind::SAME),
+            ("FIRST", kind::FIRST),
+            ("SECOND", kind::SECOND),
+            ("INCOMPARABLE", kind::INCOMPARABLE),
+            ("ON_OPEN", kind::ON_OPEN),
+            ("ON_UNTIL", kind::ON_UNTIL),
+            ("ENDED", kind::ENDED),
+            ("AHEAD", kind::AHEAD),
+            ("NEVER", kind::NEVER),
+        ] {
+            assert!(header.contains(&format!("#define ZINTUKOR_{name} {number} ")), "{name} in the header");
+            assert!(engine.contains(&format!("const {name}: u32 = {number};")), "{name} in the engine");
+        }
     }
 
     #[test]
@@ -75,7 +110,7 @@ mod tests {
         assert_eq!(decision(answer(8, 20)), Ok(Decision::Ended(20)));
         assert_eq!(decision(answer(9, 10)), Ok(Decision::Ahead(10)));
         assert_eq!(decision(answer(10, 0)), Ok(Decision::Never));
-        assert_eq!(decision(answer(0, 15)), Err(Refusal::BadQuestion));
+        assert_eq!(decision(answer(0, 15)), Err(Refusal::Question));
     }
 
     #[test]

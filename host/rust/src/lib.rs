@@ -50,6 +50,9 @@ pub use refusal::Refusal;
 pub use request::{entry, Entry, Request};
 pub use table::{Row, Table};
 
+/// The version of this crate, which is the header's `ZINTUKOR_VERSION`.
+pub const VERSION: &str = env!("CARGO_PKG_VERSION");
+
 /// The greatest column length, and the most entries of a request.
 pub const ROWS: usize = 256;
 

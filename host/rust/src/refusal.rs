@@ -36,24 +36,24 @@ macro_rules! refusals {
 }
 
 refusals! {
-    BytesEnd = 1, "the bytes end in the middle of a number or before all numbers are there";
-    BadNumber = 2, "a number in the bytes is too great or not in its shortest form";
-    BadDirection = 3, "the request's direction is neither 0 (upright) nor 1 (inverted)";
-    ZeroInRequest = 4, "the request has a 0 as an id, as a quota or as its number of trees";
-    TooDeep = 5, "the request's trees are more than 16 levels deep";
+    NumberCut = 1, "the bytes end in the middle of a number or before all numbers are there";
+    NumberForm = 2, "a number in the bytes is too great or not in its shortest form";
+    Direction = 3, "the request's direction is neither 0 (upright) nor 1 (inverted)";
+    Zero = 4, "the request has a 0 as an id, as a quota or as its number of trees";
+    Depth = 5, "the request's trees are more than 16 levels deep";
     BytesRemain = 6, "there are bytes left over after the end";
-    TooManyEntries = 7, "the request has more than 256 entries";
-    BadColumns = 10, "the columns differ in length or aren't 1 to 256 long, or the count of rows is 0 or above that length";
-    BadRow = 11, "a group has a 0 as its id, l, r or quota, or its numbers run past the greatest one";
-    EqualIds = 12, "two rows of the table have the same id";
-    BoxesMeet = 13, "two groups of the table share numbers";
-    BadGrant = 14, "a grant has a 0 as its feature, l, r or first day, or it ends before it begins";
-    BadQuestion = 15, "the feature, the pass or the day asked about is 0";
-    NotInTable = 20, "a group that is named isn't in the table";
-    ExplodedNotOnce = 21, "the group to break up must be exactly one of the request's entries";
+    Entries = 7, "the request has more than 256 entries";
+    Columns = 10, "the columns differ in length or aren't 1 to 256 long, or the count of rows is 0 or above that length";
+    RowValue = 11, "a group has a 0 as its id, l, r or quota, or its numbers run past the greatest one";
+    RowIds = 12, "two rows of the table have the same id";
+    RowRanges = 13, "two groups of the table share numbers";
+    Grant = 14, "a grant has a 0 as its feature, l, r or first day, or it ends before it begins";
+    Question = 15, "the feature, the pass or the day asked about is 0";
+    IdUnknown = 20, "a group that is named isn't in the table";
+    ExplodedEntry = 21, "the group to break up must be exactly one of the request's entries";
     IdTaken = 22, "a new group's id is in the table already or comes twice in the request";
     QuotaSum = 23, "the entries' quotas don't add up to the quota of the group to break up";
-    TableFull = 24, "the columns have too few rows for the new groups";
+    RowsFull = 24, "the columns have too few rows for the new groups";
     BufferShort = 30, "the buffer is too short for the stored table";
 }
 

@@ -31,9 +31,9 @@ fn numbers_in_bytes() {
 #[test]
 fn bad_numbers() {
     for (bytes, refusal) in [
-        (&[0x80][..], Refusal::BytesEnd),
-        (&[0x80, 0x00], Refusal::BadNumber),
-        (&[0xFF, 0xFF, 0xFF, 0xFF, 0x10], Refusal::BadNumber),
+        (&[0x80][..], Refusal::NumberCut),
+        (&[0x80, 0x00], Refusal::NumberForm),
+        (&[0xFF, 0xFF, 0xFF, 0xFF, 0x10], Refusal::NumberForm),
     ] {
         assert_eq!(Table::fresh(1, 1, 1).unwrap().refine(bytes), Err(refusal));
         assert_eq!(decide(7, Pass { l: 1, r: 1 }, 1, bytes), Err(refusal));
@@ -129,7 +129,7 @@ fn depth_17_is_refused() {
     let mut table = Table::fresh(256, 1, 17).unwrap();
     let before = table.columns().clone();
     let request = Request::upright(1).tree(chain(17));
-    assert_eq!(table.refine(&request.bytes()), Err(Refusal::TooDeep));
+    assert_eq!(table.refine(&request.bytes()), Err(Refusal::Depth));
     assert_eq!(*table.columns(), before);
 }
 

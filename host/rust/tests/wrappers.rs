@@ -64,25 +64,25 @@ fn owned_columns() {
     // Columns that are no table are refused, and stay.
     let odd = Columns { q: vec![1], ..Columns::new(2) };
     let mut lent = odd.clone();
-    assert_eq!(fresh(&mut lent, 1, 1), Err(Refusal::BadColumns));
-    assert_eq!(read(&mut lent, &buffer[..9]), Err(Refusal::BadColumns));
-    assert_eq!(refine(&mut lent, 1, &request), Err(Refusal::BadColumns));
+    assert_eq!(fresh(&mut lent, 1, 1), Err(Refusal::Columns));
+    assert_eq!(read(&mut lent, &buffer[..9]), Err(Refusal::Columns));
+    assert_eq!(refine(&mut lent, 1, &request), Err(Refusal::Columns));
     assert_eq!(lent, odd);
-    assert_eq!(order(&Columns::default(), 0, 1, 1), Err(Refusal::BadColumns));
-    assert_eq!(store(&Columns::new(1), 1, &mut []), Err(Refusal::BadRow));
+    assert_eq!(order(&Columns::default(), 0, 1, 1), Err(Refusal::Columns));
+    assert_eq!(store(&Columns::new(1), 1, &mut []), Err(Refusal::RowValue));
 }
 
 #[test]
 fn tables() {
-    assert_eq!(Table::fresh(0, 1, 1).unwrap_err(), Refusal::BadColumns);
-    assert_eq!(Table::fresh(257, 1, 1).unwrap_err(), Refusal::BadColumns);
-    assert_eq!(Table::fresh(usize::MAX, 1, 1).unwrap_err(), Refusal::BadColumns);
-    assert_eq!(Table::fresh(1, 0, 1).unwrap_err(), Refusal::BadRow);
+    assert_eq!(Table::fresh(0, 1, 1).unwrap_err(), Refusal::Columns);
+    assert_eq!(Table::fresh(257, 1, 1).unwrap_err(), Refusal::Columns);
+    assert_eq!(Table::fresh(usize::MAX, 1, 1).unwrap_err(), Refusal::Columns);
+    assert_eq!(Table::fresh(1, 0, 1).unwrap_err(), Refusal::RowValue);
     let mut table = Table::fresh(2, 1, u32::MAX).unwrap();
     let request = Request::upright(1).trees([entry(1, 1), entry(2, u32::MAX - 1)]).bytes();
     assert_eq!(table.refine(&request), Ok(2));
     assert_eq!(table.refine(&request), Err(Refusal::IdTaken));
     assert_eq!((table.count(), table.pass(3)), (2, None));
     assert_eq!(table.pass(1), Some(Pass { l: 1, r: u32::MAX }));
-    assert_eq!(Table::read(1, &table.store().unwrap()).unwrap_err(), Refusal::BadColumns);
+    assert_eq!(Table::read(1, &table.store().unwrap()).unwrap_err(), Refusal::Columns);
 }
