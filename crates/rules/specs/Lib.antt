@@ -1,4 +1,5 @@
 pub mod Limits
+pub mod Capacities
 pub mod Answers
 pub mod Refusals
 pub mod Buffers

@@ -11,6 +11,11 @@ pub const MOST_ENTRIES: usize = 256;
 // The greatest depth of an entry.
 pub const GREATEST_DEPTH: usize = 16;
 
+// How many rows and how many entries a work array holds: those that the limits allow.
+pub const ROW_CAPACITY: usize = MOST_ROWS;
+
+pub const ENTRY_CAPACITY: usize = MOST_ENTRIES;
+
 // Why a call is refused: a case for each row of document 01's table "Where each check is made".
 pub enum Refusal {
     // Bytes end before the number does.
