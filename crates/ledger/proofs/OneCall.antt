@@ -85,8 +85,10 @@ module _ {s : Table} {g : Ledger} (m : Meets s g) (bytes : List ℕ) where
   says-accepted : {q : Request} → acceptedBy g bytes ≡ answer q → engineReply s (refine bytes) ≡ ledgerReply g (refine bytes)
   unfolding engineReply ledgerReply ledgerRefined
   says-accepted {q} e =
+      let t = refineRows q (rowsIn s) in
+      let same = agree-after g (m .agree) (refines-here m bytes e) .table in
       rw (refined-accepted m bytes e, e)
-      (ap (λ n. refineSays (answer n)) (sym (groups-length (refineRows q (rowsIn s))) ∙ same-length (groupsOf (refineRows q (rowsIn s))) (explodedLedger q g .groups) (agree-after g (m .agree) (refines-here m bytes e) .table)))
+      (ap (λ n. refineSays (answer n)) (sym (groups-length t) ∙ same-length (groupsOf t) (explodedLedger q g .groups) same))
 
   says-refused : {n : ℕ} → acceptedBy g bytes ≡ refused n → engineReply s (refine bytes) ≡ ledgerReply g (refine bytes)
   unfolding engineReply ledgerReply ledgerRefined

@@ -1,7 +1,7 @@
 -- Every case of the table is right: one computation over the whole of it.
 use mathlib.Core.Path.{_≡_, refl}
 use mathlib.Core.List.{map}
-use Rattle.number.specs.Number.{numberAt, groupsAt, lastByte, followed, above, bytesOf, groupsOf}
+use Rattle.number.specs.Number.{numberAt, bitGroupsAt, lastByte, followed, addedTo, bytesOf, bitGroupsOf}
 use Rattle.boxes.specs.Boxes.{apart}
 use Rattle.table.specs.Columns.{rowsFrom, put}
 use Rattle.table.specs.Check.{someRow, somePair, lengthsBad, countBad, valueBad, sameId, rangesMeet, soundRows, checked}
@@ -22,5 +22,11 @@ use Rattle.worked.specs.Cases.{computed, stated}
 use Rattle.worked.specs.Table.{cases, besideRequest, uprightRequest, invertedRequest, first9, second9, third9, fourth9, log9, lines9, rows9, calls9, replies9}
 
 pub cases-right : map computed cases ≡ map stated cases
-unfolding cases besideRequest uprightRequest invertedRequest first9 second9 third9 fourth9 log9 lines9 rows9 calls9 replies9 numberAt groupsAt lastByte followed above bytesOf groupsOf rowsFrom put someRow somePair lengthsBad countBad valueBad sameId rangesMeet apart soundRows checked freshRows subgroup orderBy rowOf orderIn order grantBad checkedGrant grantAt grantsFrom grantsOf grantBytes grantsBytes windows appliesTo isOpen runs hasEnded yetToBegin those someOpen greatestLast leastFirst tried dated questionBad decided positiveAt entryAt treesBy treesAt directionOf requestOf someEntry accepted refineRows explodedRows refined engineReply engineAfter engineReplies engineEnd engineStart freshLedger acceptedBy isOther staysBelow belowEntries aboveEntries itself byTrees orderAfter replace explodedLedger ledgerRefined ledgerOrder ledgerReply ledgerAfter ledgerReplies ledgerEnd digits decimal fieldText lineText headingText rowText rowsText tableText partAt partThen requestThen requestsFrom begun listed growthFrom growth
+unfolding cases besideRequest uprightRequest invertedRequest first9 second9 third9 fourth9 log9 lines9 rows9 calls9 replies9 numberAt bitGroupsAt lastByte
+    followed addedTo bytesOf bitGroupsOf rowsFrom put someRow somePair lengthsBad countBad valueBad sameId rangesMeet apart soundRows checked freshRows
+    subgroup orderBy rowOf orderIn order grantBad checkedGrant grantAt grantsFrom grantsOf grantBytes grantsBytes windows appliesTo isOpen runs hasEnded
+    yetToBegin those someOpen greatestLast leastFirst tried dated questionBad decided positiveAt entryAt treesBy treesAt directionOf requestOf someEntry
+    accepted refineRows explodedRows refined engineReply engineAfter engineReplies engineEnd engineStart freshLedger acceptedBy isOther staysBelow
+    belowEntries aboveEntries itself byTrees orderAfter replace explodedLedger ledgerRefined ledgerOrder ledgerReply ledgerAfter ledgerReplies ledgerEnd
+    digits decimal fieldText lineText headingText rowText rowsText tableText partAt partThen requestThen requestsFrom begun listed growthFrom growth
 cases-right = refl
