@@ -1,34 +1,43 @@
--- Finding a group's row, one row after another.
-use mathlib.Core.Path.{_≡_, refl, ap, _∙_}
-use Prim.Native.Nat.{ℕ, suc, _+_, _-_, _≤_, _<_}
+-- A group's row, and the index at which its id stands.
+use mathlib.Core.Path.{_≡_, ap, _∙_}
+use Prim.Native.Nat.{ℕ, zero, suc, _+_, _-_, _≤_, _<_}
 use native.Mathlib.Omega.{arith}
-use native.Mathlib.Numerals.{add-one}
-use lib.ListN.{getD}
+use lib.ListN.{length, getD}
 use borrow.Author.Tests.{eq-eqb, ne-eqb}
 use Rattle.rules.specs.Answers.{answer, refused}
 use Rattle.table.specs.Columns.{Columns, rowAt, rowsFrom, rows}
-use Rattle.table.specs.Order.{rowOf, orderIn, compare}
-use Rattle.table.specs.Found.{FoundAt}
+use Rattle.table.specs.Places.{placeOf}
+use Rattle.table.specs.inside.Places.{PlaceIn}
+use Rattle.table.proofs.Places.{NoneOf, place-in}
+use Rattle.order.specs.Order.{rowOf, orderIn, compare}
+use Rattle.order.specs.inside.Found.{FoundAt}
 
--- before the first row
-pub start : (c : Columns) (n group : ℕ) → rowOf (rows c n) group ≡ rowOf (rowsFrom c 0 (n - 0)) group
-start c n group = let e : n - 0 ≡ n = omega arith in rw e
-
-module _ (c : Columns) (n group i : ℕ) where
-  row-then : i < n → rowsFrom c i (n - i) ≡ rowsFrom c i (suc (n - (i + 1)))
-  row-then h = let e : n - i ≡ suc (n - (i + 1)) = omega arith in ap (rowsFrom c i) e
-
-  pub here : i < n → getD (c .id) i 0 ≡ group → rowOf (rowsFrom c i (n - i)) group ≡ answer (rowAt c i)
+module _ (c : Columns) (n x : ℕ) where
+  -- rows that don't have the id are passed
+  passed : (i : ℕ) → i ≤ n → NoneOf (c .id) i x → rowOf (rows c n) x ≡ rowOf (rowsFrom c i (n - i)) x
   unfolding rowOf rowsFrom
-  here h e = rw (row-then h, eq-eqb _ _ e)
+  passed zero h f = let e : n - 0 ≡ n = omega arith in rw e
+  passed (suc i) h f =
+      let e : n - i ≡ suc (n - suc i) = omega arith in
+      passed i (omega arith) (λ k l. f k (omega arith)) ∙ rw (e, ne-eqb (getD (c .id) i 0) x (f i (omega arith)))
 
-  pub past : i < n → (getD (c .id) i 0 ≡ group → ⊥) → rowOf (rowsFrom c i (n - i)) group ≡ rowOf (rowsFrom c (i + 1) (n - (i + 1))) group
-  unfolding rowOf rowsFrom
-  past h e = rw (row-then h, ne-eqb _ _ e, add-one)
+  module _ {i : ℕ} (p : PlaceIn (c .id) n x i) where
+    there : i < n → rowOf (rows c n) x ≡ answer (rowAt c i)
+    unfolding rowOf rowsFrom
+    there h =
+        let e : n - i ≡ suc (n - suc i) = omega arith in
+        passed i (p .most) (p .before) ∙ rw (e, eq-eqb (getD (c .id) i 0) x (p .there h))
 
-  pub none : n ≤ i → rowOf (rowsFrom c i (n - i)) group ≡ refused 20
-  unfolding rowOf rowsFrom
-  none h = let e : n - i ≡ 0 = omega arith in rw e
+    missing : i ≡ n → rowOf (rows c n) x ≡ refused 20
+    unfolding rowOf rowsFrom
+    missing h = let e : n - i ≡ 0 = omega arith in passed i (p .most) (p .before) ∙ rw e
+
+    pub found-at : FoundAt c n x i
+    found-at = record { most = p .most; there = there; missing = missing }
+
+  -- what the lookup of an id says of the rows
+  pub found : {i : ℕ} → n ≤ length (c .id) → i ≡ placeOf (c .id) n x → FoundAt c n x i
+  found h e = found-at (rw e (place-in (c .id) n x h))
 
 -- the rows of two groups are found, or one of them is missing
 module _ (c : Columns) (n a b i : ℕ) (f : FoundAt c n a i) where

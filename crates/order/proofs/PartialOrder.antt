@@ -10,11 +10,11 @@ use Rattle.rules.specs.Answers.{Answer, answer, refused, then}
 use Rattle.rules.proofs.Answers.{same-answer, never-refused}
 use Rattle.rules.proofs.Bools.{and-both}
 use Rattle.rules.proofs.Cases.{by-lt}
 use Rattle.table.specs.Columns.{Row, Columns, rowAt, rowsFrom, rows}
-use Rattle.table.specs.Order.{Order, same, first, second, subgroup, orderBy, compare, rowOf, orderIn}
+use Rattle.order.specs.Order.{Order, same, first, second, subgroup, orderBy, compare, rowOf, orderIn}
 use Rattle.table.specs.Sound.{Sound}
-use Rattle.table.proofs.Finding.{start, here, past}
 use Rattle.table.proofs.Soundness.{not-so}
+use Rattle.order.proofs.Finding.{found-at}
 
 -- g is a subgroup of h
 abbrev pub Under : Row → Row → Type 0
@@ -50,13 +50,9 @@ module _ (c : Columns) (count : ℕ) (s : Sound c count) where
       by-lt i j (λ l. absurd (apart-rows i j l k e f)) (λ m. by-lt j i (λ l. absurd (apart-rows j i l h f e)) (λ n. omega arith))
 
   -- a group of the table is found by its id
-  found-from : (i : ℕ) → i < count → (d j : ℕ) → j + d ≡ i → rowOf (rowsFrom c j (count - j)) (getD (c .id) i 0) ≡ answer (rowAt c i)
-  found-from i h zero j e = let f : j ≡ i = omega arith in rw f (here c count (getD (c .id) i 0) i h refl)
-  found-from i h (suc d) j e =
-      past c count (getD (c .id) i 0) j (omega arith) (s .pair j i (omega arith) h .ids) ∙ found-from i h d (j + 1) (omega arith)
-
   pub row-found : (i : ℕ) → i < count → rowOf (rows c count) (getD (c .id) i 0) ≡ answer (rowAt c i)
-  row-found i h = start c count (getD (c .id) i 0) ∙ found-from i h i 0 (omega arith)
+  row-found i h =
+      found-at c count (getD (c .id) i 0) (record { most = omega arith; there = λ _. refl; before = λ k l. s .pair k i l h .ids }) .there h
 
 -- what an answer says of the tests, and what the tests give
 never : {C : Type 0} → _≡_ {A = ℕ} 0 1 → C

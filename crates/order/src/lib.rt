@@ -1,43 +1,40 @@
 // The order of two groups of a table.
 ghost use mathlib.Core.Path.{_≡_};
+ghost use mathlib.Core.List.{[]};
+ghost use Prim.Native.Nat.{_<_};
+ghost use lib.ListN.{length};
 ghost use Rattle.rules.specs.Answers.{answer};
-ghost use Rattle.table.specs.Columns.{rows};
-ghost use Rattle.table.specs.Held.{Holds};
-ghost use Rattle.table.specs.Order.{orderIn, orderBy, subgroup};
-ghost use Rattle.table.specs.Order.{order as tableOrder};
-ghost use Rattle.table.specs.Found.{FoundAt};
-ghost use Rattle.table.specs.Says.{orderedSays};
-ghost use Rattle.table.specs.Lent.{oldColumns, lentColumns};
-use crate::Checked;
-use crate::Ordered;
-use crate::checking::check_columns;
+ghost use Rattle.rules.specs.Lent.{old};
+ghost use Rattle.table.specs.Columns.{columns, rowAt};
+ghost use Rattle.table.specs.Lent.{oldColumns};
+ghost use Rattle.order.specs.Order.{orderBy, subgroup};
+ghost use Rattle.order.specs.Order.{compare as orderOf};
+ghost use Rattle.order.specs.Order.{order as tableOrder};
+ghost use Rattle.order.specs.Says.{orderedSays};
 use boxes::LValue;
 use boxes::RValue;
 use rules::Refusal;
+use table::Checked;
+use table::check_columns;
+use table::place_of;
 
-// The row of a group, or `count` where there is none.
-pub(crate) fn find(id: &[u32], l: &[u32], r: &[u32], q: &[u32], count: usize, group: u32) -> usize
-    requires { ⌜ Holds (lentColumns id l r q) count ⌝ }
-    ensures { λ i. ⌜ FoundAt (oldColumns id l r q) count group i ⌝ }
-{
-    let mut i = 0;
-    while i < count {
-        if id[i] == group {
-            return i;
-        }
-        i += 1;
-    }
-    i
+// How two groups stand to each other.
+pub enum Ordered {
+    // One group named twice.
+    Same,
+    // The first is a subgroup of the second.
+    First,
+    // The second is a subgroup of the first.
+    Second,
+    Incomparable,
+    Refused(Refusal),
 }
 
 // One group is a subgroup of another.
 fn is_subgroup(gl: LValue, gr: RValue, hl: LValue, hr: RValue) -> bool
     ensures { λ t. ⌜ t ≡ subgroup (gl .0) (gr .0) (hl .0) (hr .0) ⌝ }
 {
-    if gl.at_most(hl) {
-        return gr.at_most(hr);
-    }
-    false
+    gl.at_most(hl) & gr.at_most(hr)
 }
 
 // What is said of two groups: the same, the first below the second as its subgroup, or the second below the first.
@@ -56,18 +53,12 @@ fn compare(same_id: bool, first_below: bool, second_below: bool) -> Ordered
     Ordered::Incomparable
 }
 
-fn order_in(id: &[u32], l: &[u32], r: &[u32], q: &[u32], count: usize, a: u32, b: u32) -> Ordered
-    requires { ⌜ Holds (lentColumns id l r q) count ⌝ }
-    ensures { λ t. ⌜ orderedSays t ≡ orderIn (rows (oldColumns id l r q) count) a b ⌝ }
+// The order of the groups at rows i and j.
+fn order_rows(id: &[u32], l: &[u32], r: &[u32], i: usize, j: usize) -> Ordered
+    requires { ⌜ (i < length (now id)) × (i < length (now l)) × (i < length (now r)) ⌝ }
+    requires { ⌜ (j < length (now id)) × (j < length (now l)) × (j < length (now r)) ⌝ }
+    ensures { λ t. let c = columns (old id) (old l) (old r) [] in ⌜ orderedSays t ≡ answer (orderOf (rowAt c i) (rowAt c j)) ⌝ }
 {
-    let i = find(id, l, r, q, count, a);
-    if i == count {
-        return Ordered::Refused(Refusal::IdUnknown);
-    }
-    let j = find(id, l, r, q, count, b);
-    if j == count {
-        return Ordered::Refused(Refusal::IdUnknown);
-    }
     let first_l = LValue(l[i] as u64);
     let first_r = RValue(r[i] as u64);
     let second_l = LValue(l[j] as u64);
@@ -85,6 +76,16 @@ pub fn order(id: &[u32], l: &[u32], r: &[u32], q: &[u32], count: usize, a: u32, 
 {
     match check_columns(id, l, r, q, count) {
         Checked::Refused(why) => Ordered::Refused(why),
-        Checked::Sound => order_in(id, l, r, q, count, a, b),
+        Checked::Sound => {
+            let i = place_of(id, count, a);
+            if i == count {
+                return Ordered::Refused(Refusal::IdUnknown);
+            }
+            let j = place_of(id, count, b);
+            if j == count {
+                return Ordered::Refused(Refusal::IdUnknown);
+            }
+            order_rows(id, l, r, i, j)
+        }
     }
 }

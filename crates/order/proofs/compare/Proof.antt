@@ -1,7 +1,7 @@
--- `table::ordering::compare` meets its contract.
-use Rattle.table.specs.Order.{orderBy}
-use Rattle.table.proofs.ordering.compare.Statement.{statement}
-use Rattle.table.proofs.ordering.compare.Tie as tie
+-- `order::compare` meets its contract.
+use Rattle.order.specs.Order.{orderBy}
+use Rattle.order.proofs.compare.Statement.{statement}
+use Rattle.order.proofs.compare.Tie as tie
 
 returns : tie.Need-returns
 unfolding orderBy

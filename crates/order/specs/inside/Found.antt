@@ -2,8 +2,8 @@
 use Prim.Native.Nat.{ℕ, _≤_, _<_}
 use mathlib.Core.Path.{_≡_}
 use Rattle.rules.specs.Answers.{answer, refused}
 use Rattle.table.specs.Columns.{Columns, rowAt, rows}
-use Rattle.table.specs.Order.{rowOf}
+use Rattle.order.specs.Order.{rowOf}
 
 pub record FoundAt (c : Columns) (count group i : ℕ) : Type 0 where
   pub most : i ≤ count
