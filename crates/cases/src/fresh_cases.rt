@@ -12,7 +12,7 @@ fn fresh(id: &mut [u32], l: &mut [u32], r: &mut [u32], q: &mut [u32], group: u32
     show::columns_after(b" on", &*id, &*l, &*r, &*q);
     show::colon();
     show::counted(
-        table::fresh(&mut *id, &mut *l, &mut *r, &mut *q, group, quota),
+        fresh::fresh(&mut *id, &mut *l, &mut *r, &mut *q, group, quota),
         0,
     );
     show::columns_after(b",", &*id, &*l, &*r, &*q);

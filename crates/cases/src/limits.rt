@@ -36,7 +36,7 @@ fn deep(group_quota: u32, bytes: &[u8]) {
     let mut r = [0; 17];
     let mut q = [0; 17];
     quota(group_quota);
-    table::fresh(&mut id, &mut l, &mut r, &mut q, 1, group_quota);
+    fresh::fresh(&mut id, &mut l, &mut r, &mut q, 1, group_quota);
     let n = refine(&mut id, &mut l, &mut r, &mut q, 1, bytes);
     rows(&id, &l, &r, &q, n);
 }
@@ -97,7 +97,7 @@ fn too_many() {
     let mut more = [0; 1033];
     heading(&mut more, 129);
     roots(&mut more, 257);
-    table::fresh(&mut id, &mut l, &mut r, &mut q, 128, 257);
+    fresh::fresh(&mut id, &mut l, &mut r, &mut q, 128, 257);
     refine(&mut id, &mut l, &mut r, &mut q, 1, &more);
 }
 
@@ -117,7 +117,7 @@ fn full() {
     let mut r = [0; MOST_ROWS];
     let mut q = [0; MOST_ROWS];
     let bytes = many();
-    table::fresh(&mut id, &mut l, &mut r, &mut q, 128, 257);
+    fresh::fresh(&mut id, &mut l, &mut r, &mut q, 128, 257);
     let n = refine(&mut id, &mut l, &mut r, &mut q, 1, &bytes);
     row(&id, &l, &r, &q, 255);
     let m = refine(

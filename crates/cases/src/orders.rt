@@ -1,6 +1,6 @@
 // Order: each answer, and each refusal.
 use crate::show;
-use table::Ordered;
+use order::Ordered;
 
 fn ordered(o: Ordered) {
     match o {
@@ -33,7 +33,7 @@ fn order(id: &[u32], l: &[u32], r: &[u32], q: &[u32], count: usize, a: u32, b: u
     show::columns_after(b" in", id, l, r, q);
     show::count_after(b" count ", count);
     show::colon();
-    ordered(table::order(id, l, r, q, count, a, b));
+    ordered(order::order(id, l, r, q, count, a, b));
 }
 
 // Two groups side by side, and one above the other.

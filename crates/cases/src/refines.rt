@@ -56,7 +56,7 @@ fn four(group_quota: u32, bytes: &[u8]) {
     let mut r = [0; 4];
     let mut q = [0; 4];
     quota(group_quota);
-    table::fresh(&mut id, &mut l, &mut r, &mut q, 1, group_quota);
+    fresh::fresh(&mut id, &mut l, &mut r, &mut q, 1, group_quota);
     let n = refine(&mut id, &mut l, &mut r, &mut q, 1, bytes);
     rows(&id, &l, &r, &q, n);
 }

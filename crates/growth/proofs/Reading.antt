@@ -13,8 +13,9 @@ use Rattle.number.specs.Number.{found, numberAt}
 use Rattle.number.proofs.Laws.{number-ends}
 use Rattle.table.specs.Columns.{Row, Columns, rows, put, counted}
 use Rattle.table.specs.Check.{lengthsBad}
-use Rattle.table.specs.Fresh.{freshRows}
-use Rattle.table.proofs.Lengths.{Lengths, lengths-good}
+use Rattle.fresh.specs.Fresh.{freshRows}
+use Rattle.table.proofs.Lengths.{lengths-good}
+use Rattle.table.specs.Sound.{Lengths}
 use Rattle.refine.specs.Refine.{refined}
 use Rattle.refine.proofs.Fitting.{refined-fits}
 use Rattle.growth.specs.Growth.{Part, partAt, Begun, begun, begunAt, begunTable}

@@ -8,7 +8,7 @@ use Rattle.rules.specs.Answers.{Answer, answer, refused, then, orElse}
 use Rattle.rules.specs.Buffers.{after}
 use Rattle.number.specs.Number.{numberAt}
 use Rattle.table.specs.Columns.{Row, Columns, rows, put, counted, afterwards}
-use Rattle.table.specs.Fresh.{freshRows}
+use Rattle.fresh.specs.Fresh.{freshRows}
 use Rattle.refine.specs.Refine.{refined}
 use Rattle.growth.specs.Lines.{lineText, tableText}
 

@@ -6,7 +6,7 @@ ghost use lib.ListN.{length};
 ghost use Rattle.rules.specs.Buffers.{after};
 ghost use Rattle.rules.specs.Limits.{mostRows};
 ghost use Rattle.table.specs.Columns.{rows};
-ghost use Rattle.table.specs.Held.{Holds};
+ghost use Rattle.table.specs.inside.Held.{Holds};
 ghost use Rattle.table.specs.Says.{countedSays};
 ghost use Rattle.growth.specs.Growth.{tableRoom};
 ghost use Rattle.growth.specs.Lines.{fieldText, lineText, headingText, rowText, rowsText, tableText};

@@ -15,13 +15,13 @@ use crate::Request;
 use crate::Started;
 use crate::lines::write_answer;
 use crate::lines::write_table;
+use fresh::fresh;
 use number::Drawn;
 use number::Written;
 use number::number_at;
 use refine::refine;
 use rules::Refusal;
 use table::Counted;
-use table::fresh;
 
 // What the table needs of the text's room.
 const TABLE_ROOM: usize = 16384;

@@ -16,7 +16,7 @@ use Rattle.request.specs.Acceptance.{idTaken, accepted}
 use Rattle.request.proofs.Sums.{same-length}
 use Rattle.request.proofs.Accepting.{request-accepted}
 use Rattle.table.specs.Columns.{Row}
-use Rattle.table.specs.Order.{rowOf, orderIn}
+use Rattle.order.specs.Order.{rowOf, orderIn}
 use Rattle.refine.specs.Refine.{groupsOf}
 use Rattle.refine.proofs.Lookup.{rowIn, id-row}
 use Rattle.refine.proofs.Refinement.{by-rows}

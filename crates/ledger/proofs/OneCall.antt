@@ -16,15 +16,17 @@ use Rattle.request.specs.Acceptance.{accepted}
 use Rattle.request.proofs.Sums.{same-length}
 use Rattle.table.specs.Columns.{put}
 use Rattle.table.specs.Check.{checked}
-use Rattle.table.specs.Order as table
+use Rattle.order.specs.Order as table
 use Rattle.table.proofs.Rows.{rows-length, rows-put}
 use Rattle.table.proofs.Lengths.{good-count, put-length, put-lengths}
-use Rattle.refine.specs.Refine.{groupsOf, lOf, rOf, refineRows, explodedRows, refined}
+use Rattle.refine.specs.Refine.{groupsOf, refineRows, explodedRows, refined}
+use Rattle.table.specs.Columns.{lOf, rOf}
 use Rattle.refine.proofs.After.{groups-length}
 use Rattle.refine.proofs.Cutting.{Refining}
 use Rattle.refine.proofs.Refinement.{refining, promised}
 use Rattle.ledger.specs.Ledger.{Ledger, acceptedBy, explodedLedger, ledgerRefined, ledgerOrder}
-use Rattle.ledger.specs.Calls.{Call, refine, order, refineSays, orderSays, ledgerReply, ledgerAfter, explodes, Table, rowsIn, engineReply, engineAfter}
+use Rattle.ledger.specs.Calls.{Call, refine, order, refineSays, orderSays, ledgerReply, ledgerAfter, explodes, engineReply, engineAfter}
+use Rattle.table.specs.Columns.{Table, rowsIn}
 use Rattle.ledger.proofs.Agree.{Meets}
 use Rattle.ledger.proofs.Step.{agree-after, unmoved}
 use Rattle.ledger.proofs.Answering.{order-alike, accepted-alike, accepted-parts}

@@ -9,7 +9,8 @@ use Rattle.request.specs.Request.{Request, entries, leftOf, rightOf}
 use Rattle.request.proofs.Sums.{sum-append}
 use Rattle.request.proofs.Trees.{same-left, same-right}
 use Rattle.table.specs.Columns.{Row}
-use Rattle.refine.specs.Refine.{groupsOf, lOf, rOf, refineRows}
+use Rattle.refine.specs.Refine.{groupsOf, refineRows}
+use Rattle.table.specs.Columns.{lOf, rOf}
 use Rattle.refine.specs.Theorems.{IsEntry, OtherIn, subgroupIn}
 use Rattle.refine.proofs.Without.{but, sum-without, count-without}
 use Rattle.refine.proofs.After.{entry-or-other}

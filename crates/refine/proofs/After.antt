@@ -14,7 +14,8 @@ use Rattle.request.specs.Entries.{Entry, entry, pick, oneAt, sum, times, quotaO
 use Rattle.request.specs.Request.{Request, entries}
 use Rattle.request.proofs.Sums.{sum-append, eqb-same, quota-none, length-sum}
 use Rattle.table.specs.Columns.{Row}
-use Rattle.refine.specs.Refine.{groupsOf, lOf, rOf, rowFor, keptRows, newRows, refineRows}
+use Rattle.refine.specs.Refine.{groupsOf, rowFor, keptRows, newRows, refineRows}
+use Rattle.table.specs.Columns.{lOf, rOf}
 use Rattle.refine.specs.Theorems.{OtherIn}
 use Rattle.refine.proofs.Lookup.{rowIn, row-left, row-right, l-row, r-row}
 use Rattle.refine.proofs.Without.{but, sum-without, sum-split, count-but, count-without, quota-without}

@@ -12,7 +12,8 @@ use Rattle.request.specs.Entries.{pick, times, quotaOf, Distinct}
 use Rattle.request.proofs.Sums.{eqb-same, count-head, quota-none}
 use Rattle.table.specs.Columns.{Row}
 use Rattle.table.specs.Check.{someRow, somePair, sameId}
-use Rattle.refine.specs.Refine.{groupsOf, lOf, rOf}
+use Rattle.refine.specs.Refine.{groupsOf}
+use Rattle.table.specs.Columns.{lOf, rOf}
 
 -- the row of the group x
 abbrev pub rowIn : ℕ → List Row → Row

@@ -15,7 +15,8 @@ use Rattle.request.proofs.Sums.{quota-none}
 use Rattle.table.specs.Columns.{Row, Columns, rowAt, rowsFrom, rows, overlay}
 use Rattle.table.specs.Check.{somePair, sameId}
 use Rattle.table.proofs.Tests.{some-found, pair-found}
-use Rattle.refine.specs.Refine.{rowFor, keptRows, newRows, refineRows, lOf, rOf}
+use Rattle.refine.specs.Refine.{rowFor, keptRows, newRows, refineRows}
+use Rattle.table.specs.Columns.{lOf, rOf}
 use Rattle.refine.specs.Placing.{placed}
 
 -- entries none of which has the id u, and one of which has it

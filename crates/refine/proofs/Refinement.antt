@@ -22,8 +22,9 @@ use Rattle.request.proofs.Accepting.{request-accepted}
 use Rattle.table.specs.Columns.{Row, Columns, rows}
 use Rattle.table.specs.Check.{soundRows, checked}
 use Rattle.table.proofs.Passing.{rows-good, check-passed}
-use Rattle.table.specs.Order.{subgroup}
-use Rattle.refine.specs.Refine.{groupsOf, lOf, rOf, refineRows, explodedRows, refined}
+use Rattle.order.specs.Order.{subgroup}
+use Rattle.refine.specs.Refine.{groupsOf, refineRows, explodedRows, refined}
+use Rattle.table.specs.Columns.{lOf, rOf}
 use Rattle.refine.specs.Theorems.{IsEntry, OtherIn, qOf, boxIn, subgroupIn, Cut, Promises}
 use Rattle.refine.proofs.Lookup.{rowIn, l-row, r-row, quota-row}
 use Rattle.refine.proofs.Soundness.{Parted, clear-apart, sound-ids, ids-sound}

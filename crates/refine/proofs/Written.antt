@@ -22,7 +22,8 @@ use Rattle.table.proofs.Rows.{rows-length}
 use Rattle.table.specs.Sound.{SoundRow}
 use Rattle.table.proofs.Passing.{Passed, check-passed}
 use Rattle.table.proofs.Soundness.{check-sound}
-use Rattle.refine.specs.Refine.{groupsOf, lOf, rOf, rowFor, refineRows}
+use Rattle.refine.specs.Refine.{groupsOf, rowFor, refineRows}
+use Rattle.table.specs.Columns.{lOf, rOf}
 use Rattle.refine.specs.Placing.{placed, PlaceIn}
 use Rattle.refine.specs.Work.{Work, InWork, Boxed, listed, directionBy}
 use Rattle.refine.proofs.Lookup.{rowIn, l-row, r-row, quota-row, ids-distinct}

@@ -9,21 +9,12 @@ use Rattle.request.specs.Entries.{Entry, entry, pick, quotaOf, before, without}
 use Rattle.request.specs.Request.{Request, entries, leftOf, rightOf}
 use Rattle.request.specs.Reading.{requestOf}
 use Rattle.request.specs.Acceptance.{accepted}
-use Rattle.table.specs.Columns.{Row, Columns}
+use Rattle.table.specs.Columns.{Row, lOf, rOf, Columns}
 use Rattle.table.specs.Check.{checked}
 
 -- the groups of some rows: ids with quotas
 abbrev pub groupsOf : List Row → List Entry
 groupsOf t = map (λ w. entry (w .id) (w .q)) t
-
--- the l and the r of the group x (0 where it is not there)
-abbrev pub lOf : ℕ → List Row → ℕ
-lOf x [] = 0
-lOf x (w ∷ t) = pick (eqb x (w .id)) (w .l) (lOf x t)
-
-abbrev pub rOf : ℕ → List Row → ℕ
-rOf x [] = 0
-rOf x (w ∷ t) = pick (eqb x (w .id)) (w .r) (rOf x t)
 
 -- the row of an entry: new l = old l of the exploded group + quotas before the entry in L; new r likewise with R
 abbrev pub rowFor : Request → (l r : ℕ) → Entry → Row

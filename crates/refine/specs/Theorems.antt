@@ -13,8 +13,9 @@ use Rattle.request.specs.Forest.{treeOrder}
 use Rattle.request.specs.Request.{Request, entries, leftOf, rightOf}
 use Rattle.table.specs.Columns.{Row}
 use Rattle.table.specs.Check.{soundRows}
-use Rattle.table.specs.Order.{subgroup}
-use Rattle.refine.specs.Refine.{groupsOf, lOf, rOf}
+use Rattle.order.specs.Order.{subgroup}
+use Rattle.refine.specs.Refine.{groupsOf}
+use Rattle.table.specs.Columns.{lOf, rOf}
 
 -- x is one of the entries; one of the groups in some rows
 abbrev pub IsEntry : Request → ℕ → Type 0

@@ -15,7 +15,7 @@ use Rattle.number.specs.Number.{found, numberAt}
 use Rattle.table.specs.Columns.{Row, Columns, rows, put, counted, afterwards}
 use Rattle.table.specs.Check.{lengthsBad, countBad, soundRows, checked}
 use Rattle.stored.specs.Stored.{Rows, rowsAt, rowsToEnd, readRows}
-use Rattle.table.specs.Held.{Holds}
+use Rattle.table.specs.inside.Held.{Holds}
 use Rattle.table.specs.Says.{checkedSays}
 use Rattle.stored.specs.Says.{endSays}
 use Rattle.stored.specs.Work.{Work}

@@ -8,7 +8,7 @@ use lib.ListN.{length, getD, take, drop, set, length-set}
 use lib.Seq.{getD-set-same, getD-set-other, append-snoc, drop-cons, length-take-le, paste, paste-zero, paste-suc}
 use Rattle.rules.specs.Answers.{Answer, answer, refused, then}
 use Rattle.table.specs.Columns.{Row, Columns, columns, rowAt, rowsFrom, rows, overlay, put}
-use Rattle.table.specs.Held.{Holds}
+use Rattle.table.specs.inside.Held.{Holds}
 use Rattle.stored.specs.Stored.{RowRead, rowFound, rowRead, Rows, joined, rowsAt}
 use Rattle.table.proofs.Rows.{rows-more}
 

@@ -6,7 +6,7 @@ ghost use lib.ListN.{length, take, drop};
 ghost use Rattle.rules.specs.Answers.{answer, then, given};
 ghost use Rattle.rules.specs.Limits.{mostRows};
 ghost use Rattle.table.specs.Columns.{Row, rows, put, counted, afterwards};
-ghost use Rattle.table.specs.Held.{Holds};
+ghost use Rattle.table.specs.inside.Held.{Holds};
 ghost use Rattle.stored.specs.Stored.{Rows, rowRead, rowsAt, rowsToEnd, readRows};
 ghost use Rattle.table.specs.Says.{checkedSays, countedSays};
 ghost use Rattle.stored.specs.Says.{rowSays, endSays};

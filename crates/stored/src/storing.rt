@@ -6,7 +6,7 @@ ghost use Rattle.rules.specs.Buffers.{written, after};
 ghost use Rattle.rules.specs.Limits.{mostRows};
 ghost use Rattle.number.specs.Says.{writtenSays};
 ghost use Rattle.table.specs.Columns.{rows};
-ghost use Rattle.table.specs.Held.{Holds};
+ghost use Rattle.table.specs.inside.Held.{Holds};
 ghost use Rattle.table.specs.Check.{checked};
 ghost use Rattle.stored.specs.Stored.{rowBytes, rowsBytes, tableBytes, storeAnswer, storeBuffer};
 ghost use Rattle.rules.specs.Lent.{old, new};

@@ -11,14 +11,8 @@ use Rattle.rules.specs.Limits.{mostRows}
 use Rattle.rules.proofs.Bools.{or-none, and-both, not-none}
 use Rattle.table.specs.Columns.{Row, Columns, overlay, put}
 use Rattle.table.specs.Check.{lengthsBad, countBad}
-use Rattle.table.specs.Held.{Holds}
-
-pub record Lengths (c : Columns) : Type 0 where
-  pub in-l : length (c .l) ≡ length (c .id)
-  pub in-r : length (c .r) ≡ length (c .id)
-  pub in-q : length (c .q) ≡ length (c .id)
-  pub some : 1 ≤ length (c .id)
-  pub most : length (c .id) ≤ mostRows
+use Rattle.table.specs.Sound.{Lengths}
+use Rattle.table.specs.inside.Held.{Holds}
 
 pub lengths-good : (c : Columns) → lengthsBad c ≡ false → Lengths c
 unfolding lengthsBad

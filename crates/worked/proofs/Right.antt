@@ -5,8 +5,8 @@ use Rattle.number.specs.Number.{numberAt, bitGroupsAt, lastByte, followed, adde
 use Rattle.boxes.specs.Boxes.{apart}
 use Rattle.table.specs.Columns.{rowsFrom, put}
 use Rattle.table.specs.Check.{someRow, somePair, lengthsBad, countBad, valueBad, sameId, rangesMeet, soundRows, checked}
-use Rattle.table.specs.Fresh.{freshRows}
-use Rattle.table.specs.Order.{subgroup, orderBy, rowOf, orderIn, order}
+use Rattle.fresh.specs.Fresh.{freshRows}
+use Rattle.order.specs.Order.{subgroup, orderBy, rowOf, orderIn, order}
 use Rattle.request.specs.Entries.{someEntry}
 use Rattle.request.specs.Reading.{positiveAt, entryAt, treesBy, treesAt, directionOf, requestOf}
 use Rattle.request.specs.Acceptance.{accepted}

@@ -8,11 +8,12 @@ use Rattle.rules.specs.Limits.{mostRows}
 use Rattle.number.specs.Number.{Number, found, numberAt, bytesOf}
 use Rattle.request.specs.Entries.{quotaOf}
 use Rattle.table.specs.Columns.{Row, Columns, columns, rows, counted, afterwards}
-use Rattle.table.specs.Fresh.{freshRows}
+use Rattle.fresh.specs.Fresh.{freshRows}
 use Rattle.grant.specs.Grant.{Grant, grantsBytes}
 use Rattle.grant.specs.Decision.{Decision, decided}
 use Rattle.ledger.specs.Ledger.{Ledger, freshLedger, afreshL, afreshR}
-use Rattle.ledger.specs.Calls.{Call, Reply, Table, engineStart, engineReplies, engineEnd, rowsIn, ledgerReplies, ledgerEnd}
+use Rattle.ledger.specs.Calls.{Call, Reply, engineStart, engineReplies, engineEnd, ledgerReplies, ledgerEnd}
+use Rattle.table.specs.Columns.{Table, rowsIn}
 use Rattle.growth.specs.Growth.{Growth, growth}
 use Rattle.worked.specs.Lines.{lines}
 

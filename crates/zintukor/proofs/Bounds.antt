@@ -14,7 +14,7 @@ use Rattle.number.specs.Number.{numberAt, bytesOf}
 use Rattle.number.proofs.Laws.{number-count}
 use Rattle.table.specs.Columns.{Row, Columns, counted}
 use Rattle.table.specs.Check.{lengthsBad, countBad, checked}
-use Rattle.table.specs.Fresh.{freshRows}
+use Rattle.fresh.specs.Fresh.{freshRows}
 use Rattle.table.proofs.Lengths.{lengths-good, count-good}
 use Rattle.table.proofs.Passing.{check-passed, good-rows}
 use Rattle.table.proofs.Rows.{rows-length}

@@ -1,16 +1,17 @@
 // Answers as one number: a kind and a value.
 ghost use mathlib.Core.Path.{_≡_};
 ghost use Rattle.number.specs.Says.{writtenSays};
-ghost use Rattle.table.specs.Says.{countedSays, orderedSays};
+ghost use Rattle.table.specs.Says.{countedSays};
+ghost use Rattle.order.specs.Says.{orderedSays};
 ghost use Rattle.grant.specs.Says.{decidedSays};
 ghost use Rattle.zintukor.specs.Codes.{countCode, orderCode, decisionCode};
 ghost use Rattle.zintukor.specs.Codes.{encoded as encodedAs};
 ghost use Rattle.zintukor.specs.Small.{Small};
 use grant::Decided;
 use number::Written;
+use order::Ordered;
 use rules::GREATEST;
 use table::Counted;
-use table::Ordered;
 
 // The kinds. A refusal; the value is its number.
 const REFUSED: u32 = 0;

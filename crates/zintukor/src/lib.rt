@@ -5,8 +5,8 @@ mod codes;
 ghost use mathlib.Core.Path.{_≡_};
 ghost use Rattle.table.specs.Columns.{counted, afterwards};
 ghost use Rattle.table.specs.Check.{checked};
-ghost use Rattle.table.specs.Fresh.{freshRows};
-ghost use Rattle.table.specs.Order.{order as tableOrder};
+ghost use Rattle.fresh.specs.Fresh.{freshRows};
+ghost use Rattle.order.specs.Order.{order as tableOrder};
 ghost use Rattle.refine.specs.Refine.{refined};
 ghost use Rattle.grant.specs.Decision.{decided};
 ghost use Rattle.stored.specs.Stored.{storeAnswer, storeBuffer, readRows};
@@ -17,12 +17,12 @@ use codes::count_code;
 use codes::decision_code;
 use codes::order_code;
 use codes::written_code;
+use fresh::fresh;
 use grant::decide;
+use order::order;
 use refine::refine;
 use stored::read;
 use stored::store;
-use table::fresh;
-use table::order;
 
 // A fresh table: row 0 is the group at (1, 1) with the quota.
 #[no_mangle]

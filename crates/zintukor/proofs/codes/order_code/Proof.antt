@@ -1,6 +1,6 @@
 -- `zintukor::codes::order_code` meets its contract: each case has its kind.
 use mathlib.Core.Path.{ap, sym, _∙_}
-use Rattle.table.specs.Says.{orderedSays}
+use Rattle.order.specs.Says.{orderedSays}
 use Rattle.zintukor.specs.Codes.{refusalCode, orderCode}
 use borrow.Author.Needs.{needs}
 use Rattle.zintukor.proofs.codes.order_code.Statement.{statement}
