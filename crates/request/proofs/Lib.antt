@@ -3,3 +3,5 @@ pub mod Trees
 pub mod Numbering
 pub mod ReadLaws
 pub mod Accepting
+pub mod ReadingLaws
+pub mod Work

@@ -4,3 +4,4 @@ pub mod Numbering
 pub mod Request
 pub mod Reading
 pub mod Acceptance
+pub mod inside
