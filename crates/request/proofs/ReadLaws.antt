@@ -1,5 +1,5 @@
 -- What a request that was read promises.
-use mathlib.Core.Path.{_≡_, refl, ap}
+use mathlib.Core.Path.{_≡_, refl, ap, subst}
 use mathlib.Core.Bool.{Bool, true, false}
 use mathlib.Core.List.{List}
 use Prim.Native.Nat.{ℕ, zero, suc, _+_, _≤_, _<_}
@@ -16,7 +16,7 @@ use Rattle.number.proofs.Laws.{number-fits}
 use Rattle.request.specs.Entries.{entry, pick, oneAt, noQuota, times, Positive}
 use Rattle.request.specs.Forest.{Forest, none, tree, preL}
 use Rattle.request.specs.Request.{Request, entries}
-use Rattle.request.specs.Reading.{positiveAt, EntryRead, entryAt, TreesRead, treesBy, treesAt, requestOf}
+use Rattle.request.specs.Reading.{positiveAt, EntryRead, entryAt, TreeRead, TreesRead, treesBy, treeBy, notFull, treesAt, requestOf}
 use Rattle.request.proofs.Sums.{sum-append}
 
 pub positive-some : (bytes : List ℕ) (at : ℕ) {n : Number} → positiveAt bytes at ≡ answer n → 1 ≤ n .value
@@ -103,24 +103,38 @@ module _ (bytes : List ℕ) (room n used : ℕ) (e : EntryRead) (c r : TreesRead
 read-none : (bytes : List ℕ) (room used next : ℕ) → ReadTrees bytes room 0 used (record { trees = none; next = next; used = used })
 read-none bytes room used next = record { positive = refl; named = refl; counted = omega arith; some = λ h. omega arith; most = λ h. h; deep = omega arith; ranges = λ b. tt }
 
--- trees whose children are read by `below`
-read-by : (bytes : List ℕ) (below : ℕ → ℕ → ℕ → Answer TreesRead) (room : ℕ) → ((m p k : ℕ) (c : TreesRead) → below m p k ≡ answer c → ReadTrees bytes room m k c)
-    → (n : ℕ) (at used : ℕ) {a : TreesRead} → treesBy below false n bytes at used ≡ answer a → ReadTrees bytes (suc room) n used a
-unfolding treesBy
-read-by bytes below room h zero at used e = rw (← (same-answer e)) (read-none bytes (suc room) used at)
-read-by bytes below room h (suc n) at used k =
-    let w = wanted (ltb used mostEntries) _ _ k in
-    let e = then-answer (entryAt bytes at) _ (w .1) in
-    let c = then-answer (below (e .0 .children) (e .0 .next) (used + 1)) _ (e .2) in
-    let r = then-answer (treesBy below false n bytes (c .0 .next) (c .0 .used)) _ (c .2) in
-    rw (← (same-answer (r .2)))
-    (read-tree bytes room n used (e .0) (c .0) (r .0) (entry-some bytes at (e .1)) (λ b. entry-fits bytes at b (e .1)) (ltb-true _ _ (w .0)) (h _ _ _ _ (c .1)) (read-by bytes below room h n _ _ (r .1)))
+not-full : (used : ℕ) {u : Unit {0}} → notFull used ≡ answer u → used < mostEntries
+unfolding notFull
+not-full used h = ltb-true _ _ (wanted (ltb used mostEntries) _ _ h .0)
+
+-- a first tree, and the others
+read-first : (bytes : List ℕ) (room n at used : ℕ) (t : TreeRead) (r : TreesRead)
+    → ((m p k : ℕ) (c : TreesRead) → treesAt room m bytes p k ≡ answer c → ReadTrees bytes room m k c)
+    → treeBy notFull (entryAt bytes) (suc room) at used ≡ answer t → ReadTrees bytes (suc room) n (t .used) r
+    → ReadTrees bytes (suc room) (suc n) used (record { trees = tree (t .root) (t .children) (r .trees); next = r .next; used = r .used })
+unfolding treesAt treeBy
+read-first bytes room n at used t r below h =
+    let f = then-answer (notFull used) _ h in
+    let e = then-answer (entryAt bytes at) _ (f .2) in
+    let c = then-answer (treesAt room (e .0 .children) bytes (e .0 .next) (used + 1)) _ (e .2) in
+    subst (λ (t : TreeRead). ReadTrees bytes (suc room) n (t .used) r → ReadTrees bytes (suc room) (suc n) used (record { trees = tree (t .root) (t .children) (r .trees); next = r .next; used = r .used }))
+    (same-answer (c .2))
+    (read-tree bytes room n used (e .0) (c .0) r (entry-some bytes at (e .1)) (λ b. entry-fits bytes at b (e .1)) (not-full used (f .1)) (below _ _ _ _ (c .1)))
+
+read-by : (bytes : List ℕ) (room : ℕ) → ((m p k : ℕ) (c : TreesRead) → treesAt room m bytes p k ≡ answer c → ReadTrees bytes room m k c)
+    → (n at used : ℕ) {a : TreesRead} → treesAt (suc room) n bytes at used ≡ answer a → ReadTrees bytes (suc room) n used a
+unfolding treesAt treesBy
+read-by bytes room below zero at used e = rw (← (same-answer e)) (read-none bytes (suc room) used at)
+read-by bytes room below (suc n) at used e =
+    let t = then-answer (treeBy notFull (entryAt bytes) (suc room) at used) _ e in
+    let r = then-answer (treesAt (suc room) n bytes (t .0 .next) (t .0 .used)) _ (t .2) in
+    rw (← (same-answer (r .2))) (read-first bytes room n at used (t .0) (r .0) below (t .1) (read-by bytes room below n (t .0 .next) (t .0 .used) (r .1)))
 
 pub read-trees : (room n : ℕ) (bytes : List ℕ) (at used : ℕ) {a : TreesRead} → treesAt room n bytes at used ≡ answer a → ReadTrees bytes room n used a
-unfolding treesAt treesBy
+unfolding treesAt treesBy treeBy
 read-trees zero zero bytes at used e = rw (← (same-answer e)) (read-none bytes 0 used at)
-read-trees zero (suc n) bytes at used e = never-refused (wanted (ltb used mostEntries) _ _ e .1)
-read-trees (suc room) n bytes at used e = read-by bytes (λ m p k. treesAt room m bytes p k) room (λ m p k c. read-trees room m bytes p k) n at used e
+read-trees zero (suc n) bytes at used e = never-refused (then-answer (notFull used) _ (then-answer (treeBy notFull (entryAt bytes) 0 at used) _ e .1) .2)
+read-trees (suc room) n bytes at used e = read-by bytes room (λ m p k c. read-trees room m bytes p k) n at used e
 
 pub record ReadRequest (q : Request) : Type 0 where
   pub exploded-some : 1 ≤ q .exploded

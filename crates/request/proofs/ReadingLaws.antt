@@ -18,7 +18,7 @@ use Rattle.request.specs.Entries.{Entry, entry}
 use Rattle.request.specs.Forest.{Forest, none, tree, Direction, upright, inverted}
 use Rattle.request.specs.Numbering.{whole, size}
 use Rattle.request.specs.Request.{Request}
-use Rattle.request.specs.Reading.{positiveAt, entryAt, EntryRead, TreesRead, treesBy, treesAt, directionOf, requestOf}
+use Rattle.request.specs.Reading.{positiveAt, entryAt, EntryRead, TreesRead, treesBy, treeBy, notFull, treesAt, directionOf, requestOf}
 use Rattle.request.proofs.ReadLaws.{read-trees, InRange, request-read, ReadRequest}
 use Rattle.request.proofs.Numbering.{size-length}
 use Rattle.request.specs.inside.Work.{Work, work, enter, filled, WalkEnd, walkEnd, Walked, directionBy, isUpright, Summary, summary, RequestIn}
@@ -64,32 +64,32 @@ module _ (bytes : List ℕ) (at : ℕ) where
 
 module _ (bytes : List ℕ) where
   pub trees-none : (room n at used : ℕ) → n ≤ 0 → treesAt room n bytes at used ≡ answer (record { trees = none; next = at; used = used })
-  unfolding treesAt treesBy
+  unfolding treesAt treesBy treeBy notFull
   trees-none zero zero at used h = refl
   trees-none (suc room) zero at used h = refl
   trees-none room (suc n) at used h = absurd (omega arith)
 
   pub trees-full : (room n at used : ℕ) → 0 < n → 256 ≤ used → treesAt room n bytes at used ≡ refused 7
-  unfolding treesAt treesBy
+  unfolding treesAt treesBy treeBy notFull
   trees-full room zero at used h l = absurd (omega arith)
   trees-full zero (suc n) at used h l = rw (le-ltb used 256 l)
   trees-full (suc room) (suc n) at used h l = rw (le-ltb used 256 l)
 
   pub trees-deep : (room n at used : ℕ) → 0 < n → used < 256 → room ≡ 0 → treesAt room n bytes at used ≡ refused 5
-  unfolding treesAt treesBy
+  unfolding treesAt treesBy treeBy notFull
   trees-deep room zero at used h l z = absurd (omega arith)
   trees-deep zero (suc n) at used h l z = rw (lt-ltb used 256 l)
   trees-deep (suc room) (suc n) at used h l z = absurd (omega arith)
 
   pub trees-cut : (room n at used : ℕ) → 0 < n → used < 256 → (room ≡ 0 → ⊥) → {k : ℕ} → entryAt bytes at ≡ refused k → treesAt room n bytes at used ≡ refused k
-  unfolding treesAt treesBy
+  unfolding treesAt treesBy treeBy notFull
   trees-cut room zero at used h l z e = absurd (omega arith)
   trees-cut zero (suc n) at used h l z e = absurd (z refl)
   trees-cut (suc room) (suc n) at used h l z e = rw (lt-ltb used 256 l, e)
 
   pub trees-below : (room n at used : ℕ) → 0 < n → used < 256 → (room ≡ 0 → ⊥) → {e : EntryRead} → entryAt bytes at ≡ answer e → {k : ℕ}
       → treesAt (room - 1) (e .children) bytes (e .next) (used + 1) ≡ refused k → treesAt room n bytes at used ≡ refused k
-  unfolding treesAt treesBy
+  unfolding treesAt treesBy treeBy notFull
   trees-below room zero at used h l z e b = absurd (omega arith)
   trees-below zero (suc n) at used h l z e b = absurd (z refl)
   trees-below (suc room) (suc n) at used h l z {e} f b =
@@ -101,7 +101,7 @@ module _ (bytes : List ℕ) where
       → treesAt (room - 1) (e .children) bytes (e .next) (used + 1) ≡ answer c
       → treesAt room n bytes at used
       ≡ then (treesAt room (n - 1) bytes (c .next) (c .used)) (λ r. answer (record { trees = tree (entry (e .id) (e .quota)) (c .trees) (r .trees); next = r .next; used = r .used }))
-  unfolding treesAt treesBy
+  unfolding treesAt treesBy treeBy notFull
   trees-more room zero at used h l z e b = absurd (omega arith)
   trees-more zero (suc n) at used h l z e b = absurd (z refl)
   trees-more (suc room) (suc n) at used h l z {e} f {c} b =
