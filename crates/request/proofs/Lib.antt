@@ -5,3 +5,4 @@ pub mod ReadLaws
 pub mod Accepting
 pub mod ReadingLaws
 pub mod Work
+pub mod Bytes

@@ -14,8 +14,9 @@ use Rattle.rules.proofs.Answers.{same-answer, never-refused, peel, wanted, then
 use Rattle.number.specs.Number.{Number, numberAt}
 use Rattle.number.proofs.Laws.{number-fits}
 use Rattle.request.specs.Entries.{entry, pick, oneAt, noQuota, times, Positive}
-use Rattle.request.specs.Forest.{Forest, none, tree, preL}
+use Rattle.request.specs.Forest.{none, tree, preL}
 use Rattle.request.specs.Request.{Request, entries}
+use Rattle.request.specs.Legal.{depth, LegalTrees, Legal}
 use Rattle.request.specs.Reading.{positiveAt, EntryRead, entryAt, TreeRead, TreesRead, treesBy, treeBy, notFull, treesAt, requestOf}
 use Rattle.request.proofs.Sums.{sum-append}
 
@@ -59,16 +60,6 @@ entry-fits bytes at {e} b h =
     let fq = positive-fits bytes (i .0 .next) b (q .1) in
     (omega (arith, ap (λ m. m .id) f), omega (arith, ap (λ m. m .quota) f))
 
--- every id and quota is at least 1 and at most the greatest number
-abbrev pub InRange : Forest → Type 0
-InRange none = Unit {0}
-InRange (tree e c r) = ((1 ≤ e .id) × (e .id ≤ greatest)) × ((1 ≤ e .quota) × (e .quota ≤ greatest)) × InRange c × InRange r
-
--- the depth of the deepest entry
-abbrev pub depth : Forest → ℕ
-depth none = 0
-depth (tree w c r) = pick (leb (depth r) (depth c)) (suc (depth c)) (depth r)
-
 -- `n` trees that were read, where `used` entries stand before them and there is room for `room` depths
 pub record ReadTrees (bytes : List ℕ) (room n used : ℕ) (a : TreesRead) : Type 0 where
   pub positive : Positive (preL (a .trees))
@@ -77,7 +68,7 @@ pub record ReadTrees (bytes : List ℕ) (room n used : ℕ) (a : TreesRead) : Ty
   pub some : 1 ≤ n → 1 ≤ length (preL (a .trees))
   pub most : used ≤ mostEntries → a .used ≤ mostEntries
   pub deep : depth (a .trees) ≤ room
-  pub ranges : Bytes bytes → InRange (a .trees)
+  pub legal : Bytes bytes → LegalTrees (a .trees)
 
 deeper : (b : Bool) (c r room : ℕ) → c ≤ room → r ≤ suc room → pick b (suc c) r ≤ suc room
 deeper true c r room h k = omega arith
@@ -97,11 +88,11 @@ module _ (bytes : List ℕ) (room n used : ℕ) (e : EntryRead) (c r : TreesRead
         some = λ _. omega arith;
         most = λ _. m .most (k .most (omega arith));
         deep = deeper (leb (depth (r .trees)) (depth (c .trees))) (depth (c .trees)) (depth (r .trees)) room (k .deep) (m .deep);
-        ranges = λ b. ((s .0, g b .0), (s .1, g b .1), k .ranges b, m .ranges b);
+        legal = λ b. ((s .0, g b .0), (s .1, g b .1), k .legal b, m .legal b);
       }
 
 read-none : (bytes : List ℕ) (room used next : ℕ) → ReadTrees bytes room 0 used (record { trees = none; next = next; used = used })
-read-none bytes room used next = record { positive = refl; named = refl; counted = omega arith; some = λ h. omega arith; most = λ h. h; deep = omega arith; ranges = λ b. tt }
+read-none bytes room used next = record { positive = refl; named = refl; counted = omega arith; some = λ h. omega arith; most = λ h. h; deep = omega arith; legal = λ b. tt }
 
 not-full : (used : ℕ) {u : Unit {0}} → notFull used ≡ answer u → used < mostEntries
 unfolding notFull
@@ -144,7 +135,7 @@ pub record ReadRequest (q : Request) : Type 0 where
   pub entries-most : length (entries q) ≤ mostEntries
   pub deep : depth (q .trees) ≤ greatestDepth
 
-request-all : (bytes : List ℕ) {q : Request} → requestOf bytes ≡ answer q → ReadRequest q × (Bytes bytes → InRange (q .trees))
+request-all : (bytes : List ℕ) {q : Request} → requestOf bytes ≡ answer q → ReadRequest q × (Bytes bytes → Legal q)
 unfolding requestOf
 request-all bytes h =
     let u = then-answer (positiveAt bytes 0) _ h in
@@ -154,21 +145,17 @@ request-all bytes h =
     let t = then-answer (treesAt greatestDepth (n .0 .value) bytes (n .0 .next) 0) _ (n .2) in
     let l = peel (ltb (t .0 .next) (length bytes)) _ _ (t .2) in
     let r = read-trees greatestDepth (n .0 .value) bytes (n .0 .next) 0 (t .1) in
+    let some = positive-some bytes 0 (u .1) in
+    let least = r .some (positive-some bytes _ (n .1)) in
+    let most : length (preL (t .0 .trees)) ≤ mostEntries = omega (arith, r .counted, r .most (omega arith)) in
     rw (← (same-answer (l .1))) (
-      record {
-        exploded-some = positive-some bytes 0 (u .1);
-        positive = r .positive;
-        named = r .named;
-        entries-some = r .some (positive-some bytes _ (n .1));
-        entries-most = omega (arith, r .counted, r .most (omega arith));
-        deep = r .deep;
-      },
-      r .ranges,
+      record { exploded-some = some; positive = r .positive; named = r .named; entries-some = least; entries-most = most; deep = r .deep },
+      λ b. record { exploded = (some, positive-fits bytes 0 b (u .1)); trees = r .legal b; entries-some = least; entries-most = most; deep = r .deep },
     )
 
 pub request-read : (bytes : List ℕ) {q : Request} → requestOf bytes ≡ answer q → ReadRequest q
 request-read bytes h = request-all bytes h .0
 
--- a request that was read from bytes: every id and quota is at most the greatest number
-pub request-ranges : (bytes : List ℕ) {q : Request} → Bytes bytes → requestOf bytes ≡ answer q → InRange (q .trees)
-request-ranges bytes b h = request-all bytes h .1 b
+-- a request that was read from bytes is legal
+pub request-legal : (bytes : List ℕ) {q : Request} → Bytes bytes → requestOf bytes ≡ answer q → Legal q
+request-legal bytes b h = request-all bytes h .1 b

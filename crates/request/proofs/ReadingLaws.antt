@@ -18,8 +18,9 @@ use Rattle.request.specs.Entries.{Entry, entry}
 use Rattle.request.specs.Forest.{Forest, none, tree, Direction, upright, inverted}
 use Rattle.request.specs.Numbering.{whole, size}
 use Rattle.request.specs.Request.{Request}
+use Rattle.request.specs.Legal.{LegalTrees}
 use Rattle.request.specs.Reading.{positiveAt, entryAt, EntryRead, TreesRead, treesBy, treeBy, notFull, treesAt, directionOf, requestOf}
-use Rattle.request.proofs.ReadLaws.{read-trees, InRange, request-read, ReadRequest}
+use Rattle.request.proofs.ReadLaws.{read-trees}
 use Rattle.request.proofs.Numbering.{size-length}
 use Rattle.request.specs.inside.Work.{Work, work, enter, filled, WalkEnd, walkEnd, Walked, directionBy, isUpright, Summary, summary, RequestIn}
 
@@ -160,7 +161,7 @@ close-filled w at end sum n (tree e c r) l =
     ∙ ap (λ (v : Work). filled v (n + 1 + size c) r)
     (close-filled _ at end sum (n + 1) c (omega arith) ∙ ap (λ (v : Work). filled v (n + 1) c) (close-enter w at end sum n (e .id) (e .quota) _ _ l))
 
-pub whole-bound : (t : Forest) → InRange t → whole t ≤ size t * greatest
+pub whole-bound : (t : Forest) → LegalTrees t → whole t ≤ size t * greatest
 whole-bound none g = omega arith
 whole-bound (tree e c r) g = omega (arith, whole-bound c (g .2), whole-bound r (g .3), g .1 .1)
 
@@ -232,7 +233,7 @@ inner-found bytes room children after next v u p end inner b l e w =
       at-inner = f .1 .1 .1 .1;
       counted = sym (f .1 .1 .1 .0) ∙ z .0;
       most = omega (arith, f .1 .1 .1 .0);
-      small = omega (arith, f .1 .1 .1 .1, whole-bound (t .trees) (read-trees (room - 1) children bytes after (next + 1) (f .1 .0) .ranges b));
+      small = omega (arith, f .1 .1 .1 .1, whole-bound (t .trees) (read-trees (room - 1) children bytes after (next + 1) (f .1 .0) .legal b));
     }
 
 module _ (bytes : List ℕ) (at trees room used : ℕ) (w : Work) where

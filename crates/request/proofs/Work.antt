@@ -13,10 +13,11 @@ use Rattle.rules.proofs.Answers.{same-answer, never-refused, then-refused}
 use Rattle.request.specs.Forest.{Forest, none, tree, Direction, upright, inverted}
 use Rattle.request.specs.Numbering.{whole, size}
 use Rattle.request.specs.Request.{Request}
+use Rattle.request.specs.Legal.{LegalTrees}
 use Rattle.request.specs.Reading.{requestOf}
 use Rattle.request.specs.inside.Work.{Work, EntryIn, TreesIn, enter, filled, directionBy, isUpright, Summary, summary, RequestIn}
 use Rattle.request.proofs.Numbering.{size-length}
-use Rattle.request.proofs.ReadLaws.{InRange, request-read, request-ranges}
+use Rattle.request.proofs.ReadLaws.{request-read, request-legal}
 
 -- every work column has n places
 pub record Places (n : ℕ) (w : Work) : Type 0 where
@@ -99,7 +100,7 @@ entry-in w at id quota end sum p l = record {
 }
 
 -- a forest's entries stand in the work columns that they were written to
-pub filled-in : {n : ℕ} (w : Work) (at : ℕ) (t : Forest) → Places n w → at + size t ≤ n → InRange t → TreesIn (filled w at t) at t
+pub filled-in : {n : ℕ} (w : Work) (at : ℕ) (t : Forest) → Places n w → at + size t ≤ n → LegalTrees t → TreesIn (filled w at t) at t
 filled-in w at none p l g = tt
 filled-in w at (tree e c r) p l g =
     let v = enter w at (e .id) (e .quota) (at + 1 + size c) (e .quota + whole c) in
@@ -158,7 +159,7 @@ pub received-trees : {bytes : List ℕ} {w v : Work} {x u z : ℕ} {up : Bool} �
     → TreesIn v 0 (r .request .trees)
 received-trees {bytes} {w} {v} b r p =
     let t = r .request .trees in
-    rw (r .written) (filled-in w 0 t (filled-back w 0 t (subst (Places mostEntries) (r .written) p)) (omega (arith, r .entries-are, r .entries-most)) (request-ranges bytes b (r .is)))
+    rw (r .written) (filled-in w 0 t (filled-back w 0 t (subst (Places mostEntries) (r .written) p)) (omega (arith, r .entries-are, r .entries-most)) (request-legal bytes b (r .is) .trees))
 
 -- `read_request` refuses
 pub not-received : (bytes : List ℕ) {n : ℕ} → refused n ≡ summary (requestOf bytes) → requestOf bytes ≡ refused n
