@@ -27,7 +27,8 @@ use Rattle.ledger.specs.Ledger.{Ledger, acceptedBy, explodedLedger, ledg
 use Rattle.ledger.specs.Calls.{Call, refine, order, refineSays, orderSays, ledgerReply, ledgerAfter, explodes, Table, rowsIn, engineReply, engineAfter}
 use Rattle.ledger.proofs.Agree.{Meets}
 use Rattle.ledger.proofs.Step.{agree-after, unmoved}
-use Rattle.ledger.proofs.Answering.{order-alike, accepted-alike, accepted-parts}
+use Rattle.request.proofs.Accepting.{accepted-alike}
+use Rattle.ledger.proofs.Answering.{order-alike, accepted-parts}
 
 module _ {s : Table} {g : Ledger} (m : Meets s g) where
   -- the check of the columns passes
