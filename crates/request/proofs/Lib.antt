@@ -6,3 +6,4 @@ pub mod Accepting
 pub mod ReadingLaws
 pub mod Work
 pub mod Bytes
+pub mod Reversed
