@@ -1,6 +1,6 @@
--- Order and the acceptance of a request depend on what the groups are, and not on their places.
-use mathlib.Core.Path.{_≡_, refl, ap, ap₂, sym, _∙_}
-use mathlib.Core.Bool.{Bool, true, false, cond, _||_}
+-- Order depends on what the groups are, and not on their places; an accepted request was read.
+use mathlib.Core.Path.{_≡_, refl, ap, sym, _∙_}
+use mathlib.Core.Bool.{true, false, cond}
 use mathlib.Core.List.{List, [], _∷_}
 use Prim.Native.Nat.{ℕ, zero, suc, _+_, _≤_, _<_}
 use native.Mathlib.Omega.{arith}
@@ -9,11 +9,10 @@ use borrow.Author.Tests.{ne-eqb, le-leb, lt-leb}
 use Rattle.rules.specs.Answers.{answer, refused}
 use Rattle.rules.proofs.Answers.{then-answer}
 use Rattle.rules.proofs.Cases.{by-eq}
-use Rattle.request.specs.Entries.{Entry, pick, oneAt, quotaAt, times, someEntry, Same}
-use Rattle.request.specs.Request.{Request, entries}
+use Rattle.request.specs.Entries.{pick, oneAt, times}
+use Rattle.request.specs.Request.{Request}
 use Rattle.request.specs.Reading.{requestOf}
-use Rattle.request.specs.Acceptance.{idTaken, accepted}
-use Rattle.request.proofs.Sums.{same-length}
+use Rattle.request.specs.Acceptance.{accepted}
 use Rattle.request.proofs.Accepting.{request-accepted}
 use Rattle.table.specs.Columns.{Row}
 use Rattle.order.specs.Order.{rowOf, orderIn}
@@ -82,18 +81,6 @@ module _ (t : List Row) (g : Ledger) (h : Agree t g) (a b : ℕ) where
       go zero k n l = first-missing k
       go (suc m) k zero l = second-missing (omega arith) l
       go (suc m) k (suc n) l = both-there (omega arith) (omega arith)
-
--- a test that says the same of every entry
-some-alike : (p r : Entry → Bool) (s : List Entry) → ((e : Entry) → p e ≡ r e) → someEntry p s ≡ someEntry r s
-unfolding someEntry
-some-alike p r [] h = refl
-some-alike p r (e ∷ s) h = ap₂ (λ a b. a || b) (h e) (some-alike p r s h)
-
-pub accepted-alike : (room : ℕ) (s t : List Entry) (q : Request) → Same s t → accepted room s q ≡ accepted room t q
-unfolding accepted
-accepted-alike room s t q h =
-    let k : idTaken s q ≡ idTaken t q = some-alike _ _ (entries q) (λ e. rw (h (oneAt (e .id)))) in
-    rw (k, h (oneAt (q .exploded)), h (quotaAt (q .exploded)), same-length s t h)
 
 -- an accepted request was read, and it is the one that was accepted
 pub accepted-parts : (g : Ledger) (bytes : List ℕ) {q : Request} → acceptedBy g bytes ≡ answer q

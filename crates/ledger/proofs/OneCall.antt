@@ -29,7 +29,8 @@ use Rattle.ledger.specs.Calls.{Call, refine, order, refineSays, orderSay
 use Rattle.table.specs.Columns.{Table, rowsIn}
 use Rattle.ledger.proofs.Agree.{Meets}
 use Rattle.ledger.proofs.Step.{agree-after, unmoved}
-use Rattle.ledger.proofs.Answering.{order-alike, accepted-alike, accepted-parts}
+use Rattle.request.proofs.Accepting.{accepted-alike}
+use Rattle.ledger.proofs.Answering.{order-alike, accepted-parts}
 
 module _ {s : Table} {g : Ledger} (m : Meets s g) where
   -- the check of the columns passes

@@ -1,6 +1,6 @@
 -- What an accepted request promises.
-use mathlib.Core.Path.{_≡_, refl, ap, _∙_}
-use mathlib.Core.Bool.{Bool, true, false, not, _&&_, _||_, true≢false}
+use mathlib.Core.Path.{_≡_, refl, ap, ap₂, _∙_}
+use mathlib.Core.Bool.{Bool, true, false, not, _&&_, _||_, true≢false, and-false}
 use mathlib.Core.List.{List, [], _∷_}
 use mathlib.Core.Logic.{_≢_}
 use Prim.Native.Nat.{ℕ, zero, suc, _+_, _-_, _≤_, _<_}
@@ -8,13 +8,15 @@ use native.Mathlib.Omega.{arith}
 use native.Mathlib.Decide.{ℕ-discrete}
 use lib.Dec.{eqb, leb}
 use lib.ListN.{length}
-use borrow.Author.Tests.{eqb-true, ne-eqb, leb-true, leb-false, ltb-false, not-false}
+use borrow.Author.Tests.{eqb-true, eq-eqb, ne-eqb, leb-true, leb-false, le-leb, lt-leb, ltb-false, le-ltb, not-false}
 use Rattle.rules.specs.Answers.{answer}
 use Rattle.rules.proofs.Answers.{same-answer, peel}
 use Rattle.rules.proofs.Bools.{or-none}
-use Rattle.request.specs.Entries.{Entry, pick, total, times, has, quotaOf, someEntry, Distinct}
+use Rattle.rules.proofs.Cases.{by-eq}
+use Rattle.request.specs.Entries.{Entry, pick, oneAt, quotaAt, total, times, has, quotaOf, someEntry, Same, Distinct}
 use Rattle.request.specs.Request.{Request, entries}
-use Rattle.request.specs.Acceptance.{idUnknown, notOneEntry, idTaken, quotasWrong, rowsFull, accepted}
+use Rattle.request.specs.Acceptance.{idUnknown, notOneEntry, idInTable, idTwice, quotasWrong, rowsFull, accepted}
+use Rattle.request.proofs.Sums.{count-head, same-length}
 
 pub record Accepted (room : ℕ) (groups : List Entry) (q : Request) : Type 0 where
   -- the exploded id is a group, and exactly one entry has it
@@ -36,22 +38,22 @@ some-none p (e ∷ s) x h k = let b = or-none (p (e .id)) _ h in go (some-none p
     go ih a true c k = ap p (eqb-true x (e .id) c) ∙ a
     go ih a false c k = ih (omega arith)
 
-taken-parts : (a b c : Bool) → (not a && (b || c)) ≡ false → a ≡ false → (b ≡ false) × (c ≡ false)
-taken-parts true b c h k = absurd (true≢false k)
-taken-parts false b c h k = or-none b c h
+none-of : (a b : Bool) → (not a && b) ≡ false → a ≡ false → b ≡ false
+none-of true b h k = absurd (true≢false k)
+none-of false b h k = h
 
-module _ (groups : List Entry) (q : Request) (h : idTaken groups q ≡ false) where
-  -- an entry's id that is not the exploded one
-  other : (x : ℕ) → x ≢ q .exploded → 1 ≤ times x (entries q) → (times x groups < 1) × (times x (entries q) < 2)
-  other x n k =
-      let a = some-none (λ y. not (eqb y (q .exploded)) && (has y groups || leb 2 (times y (entries q)))) (entries q) x h k in
-      let b = taken-parts (eqb x (q .exploded)) (has x groups) (leb 2 (times x (entries q))) a (ne-eqb x (q .exploded) n) in
-      (leb-false 1 _ (b .0), leb-false 2 _ (b .1))
+-- a test that holds of no entry but the exploded one
+module _ (q : Request) (p : ℕ → Bool) (h : someEntry (λ e. not (eqb (e .id) (q .exploded)) && p (e .id)) (entries q) ≡ false) where
+  other : (x : ℕ) → x ≢ q .exploded → 1 ≤ times x (entries q) → p x ≡ false
+  other x n k = none-of _ (p x) (some-none (λ y. not (eqb y (q .exploded)) && p y) (entries q) x h k) (ne-eqb x (q .exploded) n)
 
-  one : times (q .exploded) (entries q) ≡ 1 → (x : ℕ) → Dec (x ≡ q .exploded) → (n : ℕ) → times x (entries q) ≡ n → times x (entries q) ≤ 1
-  one k x (yes e) n c = rw e (omega arith)
-  one k x (no e) zero c = omega arith
-  one k x (no e) (suc n) c = omega (arith, other x e (omega arith) .1)
+single : (q : Request) → idTwice q ≡ false → times (q .exploded) (entries q) ≡ 1 → Distinct (entries q)
+single q h k x = go (ℕ-discrete x (q .exploded)) (times x (entries q)) refl
+  where
+    go : Dec (x ≡ q .exploded) → (n : ℕ) → times x (entries q) ≡ n → times x (entries q) ≤ 1
+    go (yes e) n c = rw e (omega arith)
+    go (no e) zero c = omega arith
+    go (no e) (suc n) c = omega (arith, leb-false 2 (times x (entries q)) (other q (λ y. leb 2 (times y (entries q))) h x e (omega arith)))
 
 pub request-accepted : (room : ℕ) (groups : List Entry) (q : Request) {q′ : Request} → accepted room groups q ≡ answer q′
     → Accepted room groups q × (q ≡ q′)
@@ -59,7 +61,8 @@ unfolding accepted
 request-accepted room groups q h =
     let a = peel (idUnknown groups q) _ _ h in
     let b = peel (notOneEntry q) _ _ (a .1) in
-    let c = peel (idTaken groups q) _ _ (b .1) in
+    let c = peel (idInTable groups q || idTwice q) _ _ (b .1) in
+    let o = or-none (idInTable groups q) (idTwice q) (c .0) in
     let d = peel (quotasWrong groups q) _ _ (c .1) in
     let e = peel (rowsFull room groups q) _ _ (d .1) in
     let once = eqb-true (times (q .exploded) (entries q)) 1 (not-false _ (b .0)) in
@@ -67,10 +70,72 @@ request-accepted room groups q h =
       record {
         known = leb-true 1 (times (q .exploded) groups) (not-false _ (a .0));
         once = once;
-        new = λ x n k. omega (arith, other groups q (c .0) x n k .0);
-        single = λ x. one groups q (c .0) once x (ℕ-discrete x (q .exploded)) (times x (entries q)) refl;
+        new = λ x n k. omega (arith, leb-false 1 (times x groups) (other q (λ y. has y groups) (o .0) x n k));
+        single = single q (o .1) once;
         whole = eqb-true (total (entries q)) (quotaOf (q .exploded) groups) (not-false _ (d .0));
         fits = omega arith;
       },
       same-answer (e .1),
     )
+
+-- ## When a request is accepted
+
+-- a test of ids that fails at each entry
+none-some : (p : ℕ → Bool) (s : List Entry) → ((x : ℕ) → 1 ≤ times x s → p x ≡ false) → someEntry (λ e. p (e .id)) s ≡ false
+unfolding someEntry
+none-some p [] h = refl
+none-some p (e ∷ s) h = rw (h (e .id) (count-head (e .id) s)) (none-some p s (λ x k. h x (omega arith)))
+
+-- one that fails at each entry but the exploded one
+none-other : (q : Request) (p : ℕ → Bool) → ((x : ℕ) → x ≢ q .exploded → 1 ≤ times x (entries q) → p x ≡ false)
+    → someEntry (λ e. not (eqb (e .id) (q .exploded)) && p (e .id)) (entries q) ≡ false
+none-other q p h =
+    none-some (λ y. not (eqb y (q .exploded)) && p y) (entries q)
+    (λ x k. by-eq x (q .exploded) (λ e. rw (eq-eqb x (q .exploded) e)) (λ n. rw (h x n k) (and-false (not (eqb x (q .exploded))))))
+
+-- what an accepted request promises is all that acceptance asks
+pub accept : (room : ℕ) (groups : List Entry) (q : Request) → Accepted room groups q → accepted room groups q ≡ answer q
+unfolding accepted
+accept room groups q a =
+    let i : idInTable groups q ≡ false = none-other q (λ y. has y groups) (λ x n k. lt-leb 1 (times x groups) (omega (arith, a .new x n k))) in
+    let t : idTwice q ≡ false = none-other q (λ y. leb 2 (times y (entries q))) (λ x n k. lt-leb 2 (times x (entries q)) (omega (arith, a .single x))) in
+    let w : total (entries q) ≡ quotaOf (q .exploded) groups = a .whole in
+    let f : length groups + length (entries q) - 1 ≤ room = omega (arith, a .fits) in
+    rw (le-leb 1 (times (q .exploded) groups) (a .known), eq-eqb (times (q .exploded) (entries q)) 1 (a .once), i, t, eq-eqb _ _ w, le-ltb room (length groups + length (entries q) - 1) f)
+
+-- ## Acceptance depends on what the groups are, and not on their places
+
+some-alike : (p r : Entry → Bool) (s : List Entry) → ((e : Entry) → p e ≡ r e) → someEntry p s ≡ someEntry r s
+unfolding someEntry
+some-alike p r [] h = refl
+some-alike p r (e ∷ s) h = ap₂ (λ a b. a || b) (h e) (some-alike p r s h)
+
+pub accepted-alike : (room : ℕ) (s t : List Entry) (q : Request) → Same s t → accepted room s q ≡ accepted room t q
+unfolding accepted
+accepted-alike room s t q h =
+    let k : idInTable s q ≡ idInTable t q = some-alike _ _ (entries q) (λ e. rw (h (oneAt (e .id)))) in
+    rw (k, h (oneAt (q .exploded)), h (quotaAt (q .exploded)), same-length s t h)
+
+-- ## 22 entry by entry
+
+or-swap : (a b c d : Bool) → ((a || b) || (c || d)) ≡ ((a || c) || (b || d))
+or-swap true b c d = refl
+or-swap false true true d = refl
+or-swap false true false d = refl
+or-swap false false c d = refl
+
+some-or : (p r : Entry → Bool) (s : List Entry) → (someEntry p s || someEntry r s) ≡ someEntry (λ e. p e || r e) s
+unfolding someEntry
+some-or p r [] = refl
+some-or p r (e ∷ s) = or-swap (p e) (someEntry p s) (r e) (someEntry r s) ∙ ap (λ b. (p e || r e) || b) (some-or p r s)
+
+and-or : (a b c : Bool) → ((a && b) || (a && c)) ≡ (a && (b || c))
+and-or true b c = refl
+and-or false b c = refl
+
+-- some other entry's id is in the table or comes twice
+pub taken-each : (groups : List Entry) (q : Request)
+    → (idInTable groups q || idTwice q) ≡ someEntry (λ e. not (eqb (e .id) (q .exploded)) && (has (e .id) groups || leb 2 (times (e .id) (entries q)))) (entries q)
+taken-each groups q =
+    some-or (λ e. not (eqb (e .id) (q .exploded)) && has (e .id) groups) (λ e. not (eqb (e .id) (q .exploded)) && leb 2 (times (e .id) (entries q))) (entries q)
+    ∙ some-alike _ _ (entries q) (λ e. and-or (not (eqb (e .id) (q .exploded))) (has (e .id) groups) (leb 2 (times (e .id) (entries q))))

@@ -1,16 +1,17 @@
 -- The numbers that a walk over the trees finds are the quotas before each entry in its sequence.
-use mathlib.Core.Path.{_≡_, refl, ap₂, sym, _∙_}
+use mathlib.Core.Path.{_≡_, refl, ap, ap₂, sym, _∙_}
 use mathlib.Core.Bool.{Bool, true, false}
 use mathlib.Core.List.{List, [], _∷_, _++_, map, map-append}
 use Prim.Native.Nat.{ℕ, _+_, _≤_}
 use native.Mathlib.Omega.{arith}
 use lib.Dec.{eqb}
 use lib.ListN.{length, length-append}
-use Rattle.request.specs.Entries.{pick, quota, oneAt, noQuota, Entry, total, times, before, Distinct, Positive}
+use Rattle.request.specs.Entries.{pick, quota, oneAt, quotaAt, noQuota, Entry, total, times, quotaOf, before, Distinct, Positive}
 use Rattle.request.specs.Forest.{Forest, none, tree, Direction, upright, inverted, preL, preR, postL, postR, left, right}
 use Rattle.request.specs.Numbering.{whole, size, upL, upR, downL, downR, lefts, rights}
 use Rattle.request.proofs.Sums.{sum-append, eqb-same, count-head}
-use Rattle.request.proofs.Trees.{Root, Inside, Beyond, at-root, at-inside, at-beyond}
+use Rattle.request.proofs.Trees.{Root, Inside, Beyond, at-root, at-inside, at-beyond, same-preR}
+use Rattle.request.proofs.Reversed.{postL-reverse, postR-reverse, before-reverse}
 
 pub size-length : (t : Forest) → size t ≡ length (preL t)
 size-length none = refl
@@ -81,17 +82,34 @@ upR-is b (tree w c r) pos d =
     rw (upR-is (b + whole r + quota w) c (positive-c w c r pos d) (distinct-c w c r pos d), upR-is b r (positive-r w c r pos d) (distinct-r w c r pos d), whole-total r)
     (parts w c r pos d (λ e. b + before (e .id) (preR (tree w c r))) _ _ _ (λ a. omega arith) (λ e a. omega arith) (λ e a. omega arith))
 
+-- what stands before an entry in a post-order, by what stands before it in the other pre-order
+postL-before : (x : ℕ) (t : Forest) → times x (preL t) ≡ 1 → before x (postL t) + (before x (preR t) + quotaOf x (preL t)) ≡ whole t
+postL-before x t h =
+    let s = same-preR t in
+    omega (arith, ap (before x) (postL-reverse t), before-reverse x (preR t) (s (oneAt x) ∙ h), s (quotaAt x), s quota, whole-total t)
+
+postR-before : (x : ℕ) (t : Forest) → times x (preL t) ≡ 1 → before x (postR t) + (before x (preL t) + quotaOf x (preL t)) ≡ whole t
+postR-before x t h = omega (arith, ap (before x) (postR-reverse t), before-reverse x (preL t) h, whole-total t)
+
 downL-is : (b : ℕ) (t : Forest) → Positive (preL t) → Distinct (preL t) → downL b t ≡ map (λ e. b + before (e .id) (postL t)) (preL t)
 downL-is b none pos d = refl
 downL-is b (tree w c r) pos d =
-    rw (downL-is b c (positive-c w c r pos d) (distinct-c w c r pos d), downL-is (b + whole c + quota w) r (positive-r w c r pos d) (distinct-r w c r pos d), whole-total c)
-    (parts w c r pos d (λ e. b + before (e .id) (postL (tree w c r))) _ _ _ (λ a. omega arith) (λ e a. omega arith) (λ e a. omega arith))
+    let t = tree w c r in
+    let n = whole-total c in
+    let m = whole-total r in
+    rw (downL-is b c (positive-c w c r pos d) (distinct-c w c r pos d), downL-is (b + whole c + quota w) r (positive-r w c r pos d) (distinct-r w c r pos d))
+    (parts w c r pos d (λ e. b + before (e .id) (postL t)) _ _ _ (λ a. omega (arith, postL-before (w .id) t (a .once)))
+    (λ e a. omega (arith, postL-before (e .id) t (a .once), postL-before (e .id) c (a .in-c))) (λ e a. omega (arith, postL-before (e .id) t (a .once), postL-before (e .id) r (a .in-r))))
 
 downR-is : (b : ℕ) (t : Forest) → Positive (preL t) → Distinct (preL t) → downR b t ≡ map (λ e. b + before (e .id) (postR t)) (preL t)
 downR-is b none pos d = refl
 downR-is b (tree w c r) pos d =
-    rw (downR-is (b + whole r) c (positive-c w c r pos d) (distinct-c w c r pos d), downR-is b r (positive-r w c r pos d) (distinct-r w c r pos d), whole-total r, whole-total c)
-    (parts w c r pos d (λ e. b + before (e .id) (postR (tree w c r))) _ _ _ (λ a. omega arith) (λ e a. omega arith) (λ e a. omega arith))
+    let t = tree w c r in
+    let n = whole-total c in
+    let m = whole-total r in
+    rw (downR-is (b + whole r) c (positive-c w c r pos d) (distinct-c w c r pos d), downR-is b r (positive-r w c r pos d) (distinct-r w c r pos d))
+    (parts w c r pos d (λ e. b + before (e .id) (postR t)) _ _ _ (λ a. omega (arith, postR-before (w .id) t (a .once)))
+    (λ e a. omega (arith, postR-before (e .id) t (a .once), postR-before (e .id) c (a .in-c))) (λ e a. omega (arith, postR-before (e .id) t (a .once), postR-before (e .id) r (a .in-r))))
 
 -- what a walk writes is what the rules say
 pub lefts-are : (d : Direction) (b : ℕ) (t : Forest) → Positive (preL t) → Distinct (preL t) → lefts d b t ≡ map (λ e. b + before (e .id) (left d t)) (preL t)

@@ -1,6 +1,6 @@
 -- Laws of sums over entries, and of the quotas before an id.
 use mathlib.Core.Path.{_≡_, refl, sym, _∙_}
-use mathlib.Core.Bool.{Bool, true, false, _&&_, and-false}
+use mathlib.Core.Bool.{Bool, true, false, _&&_, and-false, and-comm}
 use mathlib.Core.List.{List, [], _∷_, _++_}
 use mathlib.Core.Logic.{_≢_, _⊎_, inl, inr, _↔_}
 use Prim.Native.Nat.{ℕ, zero, suc, _+_, _≤_, _<_}
@@ -150,3 +150,7 @@ later-r l r k s h = rw (lt-leb _ _ h) (and-false (leb l k))
 pub later-iff : (l r k s l' r' k' s' : ℕ) → l ≤ k ↔ l' ≤ k' → r ≤ s ↔ r' ≤ s' → noLater l r k s ≡ noLater l' r' k' s'
 unfolding noLater
 later-iff l r k s l' r' k' s' f g = rw (leb-iff l k l' k' (f .0) (f .1), leb-iff r s r' s' (g .0) (g .1))
+
+pub later-swap : (l r k s : ℕ) → noLater l r k s ≡ noLater r l s k
+unfolding noLater
+later-swap l r k s = and-comm (leb l k) (leb r s)

@@ -5,9 +5,10 @@ use mathlib.Core.List.{List, [], _∷_, _++_}
 use Prim.Native.Nat.{ℕ, zero, suc, _+_, _≤_, _<_}
 use native.Mathlib.Omega.{arith}
 use lib.Dec.{eqb, leb}
-use Rattle.request.specs.Entries.{pick, quota, oneAt, quotaAt, noQuota, Entry, total, times, has, before, Same, Positive}
+use Rattle.request.specs.Entries.{pick, quota, oneAt, quotaAt, noQuota, Entry, total, times, quotaOf, has, before, Same, Positive}
 use Rattle.request.specs.Forest.{Forest, none, tree, Direction, upright, inverted, preL, preR, postL, postR, left, right, above, treeOrder}
-use Rattle.request.proofs.Sums.{sum-append, before-left, before-right, before-within, before-here, before-past, positive-quota, some-quota, noLater, no-later, later-l, later-r, later-iff}
+use Rattle.request.proofs.Sums.{sum-append, before-left, before-right, before-within, before-here, before-past, quota-none, positive-quota, some-quota, noLater, no-later, later-l, later-r, later-iff, later-swap}
+use Rattle.request.proofs.Reversed.{postL-reverse, postR-reverse, same-reverse, order-reverse}
 
 -- each of the sequences holds the entries
 pub same-preR : (t : Forest) → Same (preR t) (preL t)
@@ -16,16 +17,12 @@ same-preR (tree w c r) f =
     omega (arith, sum-append f (preR r) (w ∷ preR c), sum-append f (preL c) (preL r), same-preR c f, same-preR r f)
 
 pub same-postL : (t : Forest) → Same (postL t) (preL t)
-same-postL none f = refl
-same-postL (tree w c r) f =
-    omega (arith, sum-append f (postL c) (w ∷ postL r), sum-append f (preL c) (preL r), same-postL c f, same-postL r f)
+same-postL t f = rw (postL-reverse t) (same-reverse (preR t) f ∙ same-preR t f)
 
 pub same-postR : (t : Forest) → Same (postR t) (preL t)
-same-postR none f = refl
-same-postR (tree w c r) f =
-    omega (arith, sum-append f (postR r) (postR c ++ w ∷ []), sum-append f (postR c) (w ∷ []), sum-append f (preL c) (preL r), same-postR c f, same-postR r f)
+same-postR t f = rw (postR-reverse t) (same-reverse (preL t) f)
 
--- where an entry stands, and the quotas before it in each sequence: it is the root
+-- where an entry stands, its quota, and the quotas before it in the two pre-orders: it is the root
 pub record Root (x : ℕ) (w : Entry) (c r : Forest) : Type 0 where
   pub is-root : eqb x (w .id) ≡ true
   pub some : 1 ≤ quota w
@@ -33,8 +30,8 @@ pub record Root (x : ℕ) (w : Entry) (c r : Forest) : Type 0 where
   pub in-r : times x (preL r) ≡ 0
   pub at-preL : before x (preL (tree w c r)) ≡ 0
   pub at-preR : before x (preR (tree w c r)) ≡ total (preL r)
-  pub at-postL : before x (postL (tree w c r)) ≡ total (preL c)
-  pub at-postR : before x (postR (tree w c r)) ≡ total (preL r) + total (preL c)
+  pub once : times x (preL (tree w c r)) ≡ 1
+  pub own : quotaOf x (preL (tree w c r)) ≡ quota w
 
 -- below the root
 pub record Inside (x : ℕ) (w : Entry) (c r : Forest) : Type 0 where
@@ -43,12 +40,10 @@ pub record Inside (x : ℕ) (w : Entry) (c r : Forest) : Type 0 where
   pub in-r : times x (preL r) ≡ 0
   pub at-preL : before x (preL (tree w c r)) ≡ quota w + before x (preL c)
   pub at-preR : before x (preR (tree w c r)) ≡ total (preL r) + quota w + before x (preR c)
-  pub at-postL : before x (postL (tree w c r)) ≡ before x (postL c)
-  pub at-postR : before x (postR (tree w c r)) ≡ total (preL r) + before x (postR c)
+  pub once : times x (preL (tree w c r)) ≡ 1
+  pub own : quotaOf x (preL (tree w c r)) ≡ quotaOf x (preL c)
   pub end-preL : before x (preL c) < total (preL c)
   pub end-preR : before x (preR c) < total (preL c)
-  pub end-postL : before x (postL c) < total (preL c)
-  pub end-postR : before x (postR c) < total (preL c)
 
 -- in a later tree
 pub record Beyond (x : ℕ) (w : Entry) (c r : Forest) : Type 0 where
@@ -57,12 +52,10 @@ pub record Beyond (x : ℕ) (w : Entry) (c r : Forest) : Type 0 where
   pub in-r : times x (preL r) ≡ 1
   pub at-preL : before x (preL (tree w c r)) ≡ quota w + total (preL c) + before x (preL r)
   pub at-preR : before x (preR (tree w c r)) ≡ before x (preR r)
-  pub at-postL : before x (postL (tree w c r)) ≡ total (preL c) + quota w + before x (postL r)
-  pub at-postR : before x (postR (tree w c r)) ≡ before x (postR r)
+  pub once : times x (preL (tree w c r)) ≡ 1
+  pub own : quotaOf x (preL (tree w c r)) ≡ quotaOf x (preL r)
   pub end-preL : before x (preL r) < total (preL r)
   pub end-preR : before x (preR r) < total (preL r)
-  pub end-postL : before x (postL r) < total (preL r)
-  pub end-postR : before x (postR r) < total (preL r)
 
 data Spot (x : ℕ) (w : Entry) (c r : Forest) : Type 0 where
   root : Root x w c r → Spot x w c r
@@ -82,15 +75,8 @@ module _ (x : ℕ) (w : Entry) (c r : Forest) (pos : Positive (preL (tree w c r)
     in-r = nr;
     at-preL = before-here x w (preL c ++ preL r) e;
     at-preR = omega (arith, before-right x (preR r) (w ∷ preR c) (same-preR r (oneAt x) ∙ nr), before-here x w (preR c) e, same-preR r quota);
-    at-postL = omega (arith, before-right x (postL c) (w ∷ postL r) (same-postL c (oneAt x) ∙ nc), before-here x w (postL r) e, same-postL c quota);
-    at-postR = omega (
-      arith,
-      before-right x (postR r) (postR c ++ w ∷ []) (same-postR r (oneAt x) ∙ nr),
-      before-right x (postR c) (w ∷ []) (same-postR c (oneAt x) ∙ nc),
-      before-here x w [] e,
-      same-postR c quota,
-      same-postR r quota,
-    );
+    once = rw e (omega (arith, sum-append (oneAt x) (preL c) (preL r)));
+    own = rw e (omega (arith, sum-append (quotaAt x) (preL c) (preL r), quota-none x (preL c) nc, quota-none x (preL r) nr));
   }
 
   pub at-inside : eqb x (w .id) ≡ false → times x (preL c) ≡ 1 → times x (preL r) ≡ 0 → Inside x w c r
@@ -101,12 +87,10 @@ module _ (x : ℕ) (w : Entry) (c r : Forest) (pos : Positive (preL (tree w c r)
         in-r = nr;
         at-preL = omega (arith, before-past x w (preL c ++ preL r) e, before-left x (preL c) (preL r) (omega arith));
         at-preR = omega (arith, before-right x (preR r) (w ∷ preR c) (same-preR r (oneAt x) ∙ nr), before-past x w (preR c) e, same-preR r quota);
-        at-postL = before-left x (postL c) (w ∷ postL r) (omega (arith, same-postL c (oneAt x)));
-        at-postR = omega (arith, before-right x (postR r) (postR c ++ w ∷ []) (same-postR r (oneAt x) ∙ nr), before-left x (postR c) (w ∷ []) (omega (arith, same-postR c (oneAt x))), same-postR r quota);
+        once = rw e (omega (arith, sum-append (oneAt x) (preL c) (preL r)));
+        own = rw e (omega (arith, sum-append (quotaAt x) (preL c) (preL r), quota-none x (preL r) nr));
         end-preL = within x (preL c) (preL c) (λ f. refl) pc nc;
         end-preR = within x (preR c) (preL c) (same-preR c) pc nc;
-        end-postL = within x (postL c) (preL c) (same-postL c) pc nc;
-        end-postR = within x (postR c) (preL c) (same-postR c) pc nc;
       }
 
   pub at-beyond : eqb x (w .id) ≡ false → times x (preL c) ≡ 0 → times x (preL r) ≡ 1 → Beyond x w c r
@@ -117,12 +101,10 @@ module _ (x : ℕ) (w : Entry) (c r : Forest) (pos : Positive (preL (tree w c r)
         in-r = nr;
         at-preL = omega (arith, before-past x w (preL c ++ preL r) e, before-right x (preL c) (preL r) nc);
         at-preR = before-left x (preR r) (w ∷ preR c) (omega (arith, same-preR r (oneAt x)));
-        at-postL = omega (arith, before-right x (postL c) (w ∷ postL r) (same-postL c (oneAt x) ∙ nc), before-past x w (postL r) e, same-postL c quota);
-        at-postR = before-left x (postR r) (postR c ++ w ∷ []) (omega (arith, same-postR r (oneAt x)));
+        once = rw e (omega (arith, sum-append (oneAt x) (preL c) (preL r)));
+        own = rw e (omega (arith, sum-append (quotaAt x) (preL c) (preL r), quota-none x (preL c) nc));
         end-preL = within x (preL r) (preL r) (λ f. refl) pr nr;
         end-preR = within x (preR r) (preL r) (same-preR r) pr nr;
-        end-postL = within x (postL r) (preL r) (same-postL r) pr nr;
-        end-postR = within x (postR r) (preL r) (same-postR r) pr nr;
       }
 
   spot : times x (preL (tree w c r)) ≡ 1 → Spot x w c r
@@ -199,22 +181,6 @@ module _ {x y : ℕ} {w : Entry} {c r : Forest} where
   upright-node (beyond a) (inside b) ihc ihr = sym (later-l _ _ _ _ (omega arith))
   upright-node (beyond a) (beyond b) ihc ihr = ihr (a .in-r) (b .in-r) ∙ later-iff _ _ _ _ _ _ _ _ (omega arith) (omega arith)
 
-module _ {x y : ℕ} {w : Entry} {c r : Forest} where
-  inverted-node : (a : Spot x w c r) (b : Spot y w c r)
-      → (times x (preL c) ≡ 1 → times y (preL c) ≡ 1 → above c y x ≡ noLater (before x (postL c)) (before x (postR c)) (before y (postL c)) (before y (postR c)))
-      → (times x (preL r) ≡ 1 → times y (preL r) ≡ 1 → above r y x ≡ noLater (before x (postL r)) (before x (postR r)) (before y (postL r)) (before y (postR r)))
-      → rel b a ≡ noLater (before x (postL (tree w c r))) (before x (postR (tree w c r))) (before y (postL (tree w c r))) (before y (postR (tree w c r)))
-  unfolding rel
-  inverted-node (root a) (root b) ihc ihr = sym (no-later (omega arith) (omega arith))
-  inverted-node (root a) (inside b) ihc ihr = sym (later-l _ _ _ _ (omega arith))
-  inverted-node (root a) (beyond b) ihc ihr = sym (later-r _ _ _ _ (omega arith))
-  inverted-node (inside a) (root b) ihc ihr = sym (no-later (omega arith) (omega arith))
-  inverted-node (inside a) (inside b) ihc ihr = ihc (a .in-c) (b .in-c) ∙ later-iff _ _ _ _ _ _ _ _ (omega arith) (omega arith)
-  inverted-node (inside a) (beyond b) ihc ihr = sym (later-r _ _ _ _ (omega arith))
-  inverted-node (beyond a) (root b) ihc ihr = sym (later-l _ _ _ _ (omega arith))
-  inverted-node (beyond a) (inside b) ihc ihr = sym (later-l _ _ _ _ (omega arith))
-  inverted-node (beyond a) (beyond b) ihc ihr = ihr (a .in-r) (b .in-r) ∙ later-iff _ _ _ _ _ _ _ _ (omega arith) (omega arith)
-
 -- Theorem 1, upright: x is y or an ancestor of y exactly where it stands no later in both sequences
 upright-order : (t : Forest) (x y : ℕ) → Positive (preL t) → times x (preL t) ≡ 1 → times y (preL t) ≡ 1
     → above t x y ≡ noLater (before x (preL t)) (before x (preR t)) (before y (preL t)) (before y (preR t))
@@ -225,15 +191,14 @@ upright-order (tree w c r) x y pos hx hy =
     let p = sum-append noQuota (preL c) (preL r) in
     above-rel a b ∙ upright-node a b (upright-order c x y (omega arith)) (upright-order r x y (omega arith))
 
--- Theorem 1, inverted: x is y or a descendant of y exactly where it stands no later in both sequences
+-- Theorem 1, inverted: x is y or a descendant of y exactly where it stands no later in both sequences, which are the upright ones from their ends
 inverted-order : (t : Forest) (x y : ℕ) → Positive (preL t) → times x (preL t) ≡ 1 → times y (preL t) ≡ 1
     → above t y x ≡ noLater (before x (postL t)) (before x (postR t)) (before y (postL t)) (before y (postR t))
-inverted-order none x y pos hx hy = absurd (omega arith)
-inverted-order (tree w c r) x y pos hx hy =
-    let a = spot x w c r pos hx in
-    let b = spot y w c r pos hy in
-    let p = sum-append noQuota (preL c) (preL r) in
-    above-rel b a ∙ inverted-node a b (inverted-order c x y (omega arith)) (inverted-order r x y (omega arith))
+inverted-order t x y pos hx hy =
+    let s = same-preR t in
+    rw (postL-reverse t, postR-reverse t)
+    (upright-order t y x pos hy hx ∙ later-swap _ _ _ _
+    ∙ sym (later-iff _ _ _ _ _ _ _ _ (order-reverse x y (preR t) (s noQuota ∙ pos) (s (oneAt x) ∙ hx) (s (oneAt y) ∙ hy)) (order-reverse x y (preL t) pos hx hy)))
 
 -- the two sequences of a direction hold the entries
 pub same-left : (d : Direction) (t : Forest) → Same (left d t) (preL t)

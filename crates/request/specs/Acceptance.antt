@@ -16,9 +16,13 @@ idUnknown groups q = not (has (q .exploded) groups)
 abbrev pub notOneEntry : Request → Bool
 notOneEntry q = not (eqb (times (q .exploded) (entries q)) 1)
 
--- 22: another entry's id is in the table or comes twice
-abbrev pub idTaken : List Entry → Request → Bool
-idTaken groups q = someEntry (λ e. not (eqb (e .id) (q .exploded)) && (has (e .id) groups || leb 2 (times (e .id) (entries q)))) (entries q)
+-- 22: another entry's id is in the table
+abbrev pub idInTable : List Entry → Request → Bool
+idInTable groups q = someEntry (λ e. not (eqb (e .id) (q .exploded)) && has (e .id) groups) (entries q)
+
+-- 22: or comes twice
+abbrev pub idTwice : Request → Bool
+idTwice q = someEntry (λ e. not (eqb (e .id) (q .exploded)) && leb 2 (times (e .id) (entries q))) (entries q)
 
 -- 23: quotas don't add up
 abbrev pub quotasWrong : List Entry → Request → Bool
@@ -33,7 +37,7 @@ unfoldable pub accepted : ℕ → List Entry → Request → Answer Request
 accepted room groups q =
     cond (idUnknown groups q) (refused 20)
     (cond (notOneEntry q) (refused 21)
-    (cond (idTaken groups q) (refused 22)
+    (cond (idInTable groups q || idTwice q) (refused 22)
     (cond (quotasWrong groups q) (refused 23)
     (cond (rowsFull room groups q) (refused 24)
     (answer q)))))

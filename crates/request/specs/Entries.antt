@@ -45,6 +45,10 @@ has x s = leb 1 (times x s)
 abbrev pub quotaOf : ℕ → List Entry → ℕ
 quotaOf x s = sum (quotaAt x) s
 
+-- the entry with the id x
+abbrev pub entryOf : ℕ → List Entry → Entry
+entryOf x s = entry x (quotaOf x s)
+
 -- the quotas that stand before the id x
 abbrev pub before : ℕ → List Entry → ℕ
 before x [] = 0

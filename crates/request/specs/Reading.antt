@@ -1,13 +1,13 @@
 -- Reading a request's bytes (document 01, "Requests" and the refusals 1 to 7), from left to right; the first refusal met counts.
 use Prim.Native.Nat.{ℕ, zero, suc, _+_}
-use mathlib.Core.Bool.{Bool, true, false, cond}
+use mathlib.Core.Bool.{cond}
 use mathlib.Core.List.{List}
 use lib.Dec.{eqb, ltb}
 use lib.ListN.{length}
 use Rattle.rules.specs.Answers.{Answer, answer, refused, then}
 use Rattle.rules.specs.Limits.{mostEntries, greatestDepth}
 use Rattle.number.specs.Number.{Number, numberAt}
-use Rattle.request.specs.Entries.{entry}
+use Rattle.request.specs.Entries.{Entry, entry}
 use Rattle.request.specs.Forest.{Forest, none, tree, Direction, upright, inverted}
 use Rattle.request.specs.Request.{Request}
 
@@ -29,29 +29,44 @@ entryAt bytes at =
     then (numberAt bytes (quota .next)) λ children.
     answer (record { id = id .value; quota = quota .value; children = children .value; next = children .next })
 
--- trees that were read, the position after them, and how many entries of the request have been read by then
+-- a tree that was read, the position after it, and how many entries have been read by then
+pub record TreeRead : Type 0 where
+  pub root : Entry
+  pub children : Forest
+  pub next : ℕ
+  pub used : ℕ
+
+-- the same of trees
 pub record TreesRead : Type 0 where
   pub trees : Forest
   pub next : ℕ
   pub used : ℕ
 
--- `n` trees from a position on, each in left pre-order, where `used` entries stand before and `below` reads the trees of an entry's children.
--- 7: before an entry, it is the 257th. 5: its depth is 17, which `deep` says
-unfoldable pub treesBy : (ℕ → ℕ → ℕ → Answer TreesRead) → Bool → ℕ → List ℕ → ℕ → ℕ → Answer TreesRead
-treesBy below deep zero bytes at used = answer (record { trees = none; next = at; used = used })
-treesBy below deep (suc n) bytes at used =
-    cond (ltb used mostEntries)
-    (cond deep (refused 5)
-    (then (entryAt bytes at) λ e.
-    then (below (e .children) (e .next) (used + 1)) λ c.
-    then (treesBy below deep n bytes (c .next) (c .used)) λ r.
-    answer (record { trees = tree (entry (e .id) (e .quota)) (c .trees) (r .trees); next = r .next; used = r .used })))
-    (refused 7)
+-- `n` trees from a position on, each read by `one`, where `used` entries stand before
+unfoldable pub treesBy : (ℕ → ℕ → Answer TreeRead) → ℕ → ℕ → ℕ → Answer TreesRead
+treesBy one zero at used = answer (record { trees = none; next = at; used = used })
+treesBy one (suc n) at used =
+    then (one at used) λ t.
+    then (treesBy one n (t .next) (t .used)) λ r.
+    answer (record { trees = tree (t .root) (t .children) (r .trees); next = r .next; used = r .used })
 
--- with `room` for so many depths; a root has depth 1
+-- a tree in left pre-order, with `room` for so many depths: `before` is the check before an entry where so many stand before it, and `read` reads
+-- an entry. 5: before an entry, its depth is 17
+unfoldable pub treeBy : (ℕ → Answer (Unit {0})) → (ℕ → Answer EntryRead) → ℕ → ℕ → ℕ → Answer TreeRead
+treeBy before read zero at used = then (before used) λ _. refused 5
+treeBy before read (suc room) at used =
+    then (before used) λ _.
+    then (read at) λ e.
+    then (treesBy (treeBy before read room) (e .children) (e .next) (used + 1)) λ c.
+    answer (record { root = entry (e .id) (e .quota); children = c .trees; next = c .next; used = c .used })
+
+-- 7: before an entry, it is the 257th
+unfoldable pub notFull : ℕ → Answer (Unit {0})
+notFull used = cond (ltb used mostEntries) (answer tt) (refused 7)
+
+-- the trees of a request; a root has depth 1
 unfoldable pub treesAt : ℕ → ℕ → List ℕ → ℕ → ℕ → Answer TreesRead
-treesAt zero n bytes at used = treesBy (λ m p k. refused 5) true n bytes at used
-treesAt (suc room) n bytes at used = treesBy (λ m p k. treesAt room m bytes p k) false n bytes at used
+treesAt room n bytes at used = treesBy (treeBy notFull (entryAt bytes) room) n at used
 
 -- direction, 0 upright or 1 inverted
 unfoldable pub directionOf : ℕ → Direction

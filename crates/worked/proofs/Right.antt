@@ -8,7 +8,7 @@ use Rattle.table.specs.Check.{someRow, somePair, lengthsBad, countBad, valueBad
 use Rattle.fresh.specs.Fresh.{freshRows}
 use Rattle.order.specs.Order.{subgroup, orderBy, rowOf, orderIn, order}
 use Rattle.request.specs.Entries.{someEntry}
-use Rattle.request.specs.Reading.{positiveAt, entryAt, treesBy, treesAt, directionOf, requestOf}
+use Rattle.request.specs.Reading.{positiveAt, entryAt, treesBy, treeBy, notFull, treesAt, directionOf, requestOf}
 use Rattle.request.specs.Acceptance.{accepted}
 use Rattle.refine.specs.Refine.{refineRows, explodedRows, refined}
 use Rattle.grant.specs.Grant.{grantBad, checkedGrant, grantAt, grantsFrom, grantsOf, grantBytes, grantsBytes}
@@ -25,7 +25,7 @@ pub cases-right : map computed cases ≡ map stated cases
 unfolding cases besideRequest uprightRequest invertedRequest first9 second9 third9 fourth9 log9 lines9 rows9 calls9 replies9 numberAt bitGroupsAt lastByte
     followed addedTo bytesOf bitGroupsOf rowsFrom put someRow somePair lengthsBad countBad valueBad sameId rangesMeet apart soundRows checked freshRows
     subgroup orderBy rowOf orderIn order grantBad checkedGrant grantAt grantsFrom grantsOf grantBytes grantsBytes windows appliesTo isOpen runs hasEnded
-    yetToBegin those someOpen greatestLast leastFirst tried dated questionBad decided positiveAt entryAt treesBy treesAt directionOf requestOf someEntry
+    yetToBegin those someOpen greatestLast leastFirst tried dated questionBad decided positiveAt entryAt treesBy treeBy notFull treesAt directionOf requestOf someEntry
     accepted refineRows explodedRows refined engineReply engineAfter engineReplies engineEnd engineStart freshLedger acceptedBy isOther staysBelow
     belowEntries aboveEntries itself byTrees orderAfter replace explodedLedger ledgerRefined ledgerOrder ledgerReply ledgerAfter ledgerReplies ledgerEnd
     digits decimal fieldText lineText headingText rowText rowsText tableText partAt partThen requestThen requestsFrom begun listed growthFrom growth

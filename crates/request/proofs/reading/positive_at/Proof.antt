@@ -1,10 +1,10 @@
--- `refine::reading::positive_at` meets its contract: the number that stands there, and 4 where it is 0.
+-- `request::reading::positive_at` meets its contract: the number that stands there, and 4 where it is 0.
 use mathlib.Core.Path.{sym, ap, _∙_}
 use Rattle.number.specs.Says.{drawnSays}
-use Rattle.refine.proofs.ReadingLaws.{positive-refused, positive-zero, positive-found}
+use Rattle.request.proofs.ReadingLaws.{positive-refused, positive-zero, positive-found}
 use borrow.Author.Needs.{needs}
-use Rattle.refine.proofs.reading.positive_at.Statement.{statement}
-use Rattle.refine.proofs.reading.positive_at.Tie as tie
+use Rattle.request.proofs.reading.positive_at.Statement.{statement}
+use Rattle.request.proofs.reading.positive_at.Tie as tie
 
 pub positive-at-spec : {M : Type 1} → statement M
 positive-at-spec =

@@ -3,14 +3,15 @@ ghost use mathlib.Core.Path.{_≡_};
 ghost use Prim.Native.Nat.{_≤_};
 ghost use Rattle.rules.specs.Limits.{mostEntries};
 ghost use Rattle.number.specs.Says.{drawnSays};
 ghost use Rattle.request.specs.Reading.{positiveAt, entryAt, treesAt, requestOf};
-ghost use Rattle.refine.specs.Says.{entrySays, walkSays, requestSays};
-ghost use Rattle.refine.specs.Work.{work, Roomy, Walked, reached, DrawnIn, summary};
-ghost use Rattle.rules.specs.Lent.{old, new};
+ghost use Rattle.request.specs.inside.Says.{entrySays, walkSays, requestSays};
+ghost use Rattle.request.specs.inside.Work.{oldWork, newWork, Walked, walkEnd, RequestIn, summary};
+ghost use Rattle.rules.specs.Lent.{old};
 use crate::EntryDrawn;
-use crate::RequestDrawn;
+use crate::RequestRead;
 use crate::Walk;
 use number::Drawn;
+use rules::ENTRY_CAPACITY;
 use rules::GREATEST_DEPTH;
 use rules::MOST_ENTRIES;
 use rules::Refusal;
@@ -48,21 +49,20 @@ fn entry_at(bytes: &[u8], at: usize) -> EntryDrawn
 
 // The trees from a position on: a walk over child counts, with the remaining depth `room` falling. Each entry takes the next place of
 // the work columns.
-pub(crate) fn read_trees(
+fn read_trees(
     bytes: &[u8],
     at: usize,
     trees: u32,
     room: usize,
     used: usize,
-    ids: &mut [u32],
-    quotas: &mut [u32],
-    ends: &mut [usize],
-    sums: &mut [u64],
+    ids: &mut [u32; ENTRY_CAPACITY],
+    quotas: &mut [u32; ENTRY_CAPACITY],
+    ends: &mut [usize; ENTRY_CAPACITY],
+    sums: &mut [u64; ENTRY_CAPACITY],
 ) -> Walk
-    requires { ⌜ Roomy (work (now ids) (now quotas) (now ends) (now sums)) ⌝ }
     requires { ⌜ used ≤ mostEntries ⌝ }
-    ensures { λ t. ⌜ walkSays t ≡ reached (treesAt room trees (old bytes) at used) ⌝ }
-    ensures { λ t. ⌜ Walked (treesAt room trees (old bytes) at used) used (work (old ids) (old quotas) (old ends) (old sums)) (work (new ids) (new quotas) (new ends) (new sums)) ⌝ }
+    ensures { λ t. ⌜ walkSays t ≡ walkEnd (treesAt room trees (old bytes) at used) ⌝ }
+    ensures { λ t. ⌜ Walked (treesAt room trees (old bytes) at used) used (oldWork ids quotas ends sums) (newWork ids quotas ends sums) ⌝ }
 {
     let mut place = at;
     let mut next = used;
@@ -96,7 +96,7 @@ pub(crate) fn read_trees(
                     Walk::Refused(why) => {
                         return Walk::Refused(why);
                     }
-                    Walk::Reach(p, end, inner) => {
+                    Walk::End(p, end, inner) => {
                         let own = quota as u64 + inner;
                         ends[next] = end;
                         sums[next] = own;
@@ -109,31 +109,30 @@ pub(crate) fn read_trees(
             }
         }
     }
-    Walk::Reach(place, next, sum)
+    Walk::End(place, next, sum)
 }
 
 // A request's bytes: exploded id, direction, number of trees, and the trees.
-pub(crate) fn read_request(
+pub fn read_request(
     bytes: &[u8],
-    ids: &mut [u32],
-    quotas: &mut [u32],
-    ends: &mut [usize],
-    sums: &mut [u64],
-) -> RequestDrawn
-    requires { ⌜ Roomy (work (now ids) (now quotas) (now ends) (now sums)) ⌝ }
+    ids: &mut [u32; ENTRY_CAPACITY],
+    quotas: &mut [u32; ENTRY_CAPACITY],
+    ends: &mut [usize; ENTRY_CAPACITY],
+    sums: &mut [u64; ENTRY_CAPACITY],
+) -> RequestRead
     ensures { λ t. ⌜ requestSays t ≡ summary (requestOf (old bytes)) ⌝ }
-    ensures { λ t. ⌜ DrawnIn (requestOf (old bytes)) (work (new ids) (new quotas) (new ends) (new sums)) ⌝ }
+    ensures { λ t. ⌜ RequestIn (requestOf (old bytes)) (oldWork ids quotas ends sums) (newWork ids quotas ends sums) ⌝ }
 {
     match positive_at(bytes, 0) {
-        Drawn::Refused(why) => RequestDrawn::Refused(why),
+        Drawn::Refused(why) => RequestRead::Refused(why),
         Drawn::Number(exploded, after_exploded) => match reader::draw_at(bytes, after_exploded) {
-            Drawn::Refused(why) => RequestDrawn::Refused(why),
+            Drawn::Refused(why) => RequestRead::Refused(why),
             Drawn::Number(direction, after_direction) => {
                 if 1 < direction {
-                    return RequestDrawn::Refused(Refusal::Direction);
+                    return RequestRead::Refused(Refusal::Direction);
                 }
                 match positive_at(bytes, after_direction) {
-                    Drawn::Refused(why) => RequestDrawn::Refused(why),
+                    Drawn::Refused(why) => RequestRead::Refused(why),
                     Drawn::Number(trees, first) => match read_trees(
                         bytes,
                         first,
@@ -145,12 +144,12 @@ pub(crate) fn read_request(
                         &mut *ends,
                         &mut *sums,
                     ) {
-                        Walk::Refused(why) => RequestDrawn::Refused(why),
-                        Walk::Reach(end, entries, quota) => {
+                        Walk::Refused(why) => RequestRead::Refused(why),
+                        Walk::End(end, entries, quota) => {
                             if end < bytes.len() {
-                                return RequestDrawn::Refused(Refusal::BytesRemain);
+                                return RequestRead::Refused(Refusal::BytesRemain);
                             }
-                            RequestDrawn::Request {
+                            RequestRead::Request {
                                 exploded,
                                 upright: direction == 0,
                                 entries,

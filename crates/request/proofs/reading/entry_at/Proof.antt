@@ -1,10 +1,10 @@
--- `refine::reading::entry_at` meets its contract: id, quota and number of children, and the first refusal met.
+-- `request::reading::entry_at` meets its contract: id, quota and number of children, and the first refusal met.
 use mathlib.Core.Path.{sym, ap, _∙_}
 use Rattle.number.specs.Says.{drawnSays}
-use Rattle.refine.proofs.ReadingLaws.{entry-no-id, entry-no-quota, entry-no-children, entry-found}
+use Rattle.request.proofs.ReadingLaws.{entry-no-id, entry-no-quota, entry-no-children, entry-found}
 use borrow.Author.Needs.{needs}
-use Rattle.refine.proofs.reading.entry_at.Statement.{statement}
-use Rattle.refine.proofs.reading.entry_at.Tie as tie
+use Rattle.request.proofs.reading.entry_at.Statement.{statement}
+use Rattle.request.proofs.reading.entry_at.Tie as tie
 
 returns-2 : tie.Need-returns-2
 returns-2 c =
