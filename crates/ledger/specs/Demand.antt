@@ -13,7 +13,7 @@ use Rattle.table.specs.Fresh.{freshRows}
 use Rattle.table.specs.Order as table
 use Rattle.refine.specs.Refine.{groupsOf, lOf, rOf}
 use Rattle.grant.specs.Grant.{Grant, grant, grantsBytes}
-use Rattle.grant.specs.Decision.{decided}
+use Rattle.decide.specs.Decision.{decided}
 use Rattle.ledger.specs.Ledger.{Ledger, freshLedger, ledgerOrder, afreshL, afreshR}
 use Rattle.ledger.specs.Decisions.{GroupGrant, ledgerDecided, Each}
 use Rattle.ledger.specs.Calls.{Call, ledgerReplies, ledgerEnd, explodedIn, Table, rowsIn, engineReplies, engineEnd, engineStart}

@@ -2,11 +2,11 @@
 ghost use mathlib.Core.Path.{_≡_};
 ghost use Rattle.number.specs.Says.{writtenSays};
 ghost use Rattle.table.specs.Says.{countedSays, orderedSays};
-ghost use Rattle.grant.specs.Says.{decidedSays};
+ghost use Rattle.decide.specs.Says.{decidedSays};
 ghost use Rattle.zintukor.specs.Codes.{countCode, orderCode, decisionCode};
 ghost use Rattle.zintukor.specs.Codes.{encoded as encodedAs};
 ghost use Rattle.zintukor.specs.Small.{Small};
-use grant::Decided;
+use decide::Decided;
 use number::Written;
 use rules::GREATEST;
 use table::Counted;
