@@ -28,8 +28,13 @@ pub enum GrantDrawn {
 fn grant_bad(g: Grant) -> bool
     ensures { λ t. ⌜ t ≡ grantBad g ⌝ }
 {
-    (g.feature == 0)
-        | ((g.l == 0) | ((g.r == 0) | ((g.first == 0) | (!(g.last == 0) & (g.last < g.first)))))
+    if (g.feature == 0) | ((g.l == 0) | ((g.r == 0) | (g.first == 0))) {
+        return true;
+    }
+    if g.last == 0 {
+        return false;
+    }
+    g.last < g.first
 }
 
 // A grant whose five numbers are read: 14.
