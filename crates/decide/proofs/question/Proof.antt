@@ -9,59 +9,8 @@ use borrow.Author.Needs.{needs}
 use Rattle.decide.proofs.question.Statement.{statement}
 use Rattle.decide.proofs.question.Tie as tie
 
-returns : tie.Need-returns
-unfolding asked
-returns c = rw (sym (c .before .before .before .number-at .ensures) ∙ ap drawnSays (c .before .why .given .1))
-
-returns-2 : tie.Need-returns-2
-unfolding asked
-returns-2 c =
-    let a = c .before .before .before .before in
-    rw (
-      sym (a .before .before .before .number-at .ensures) ∙ ap drawnSays (a .before .feature .given .1),
-      sym (c .before .before .before .number-at2 .ensures) ∙ ap drawnSays (c .before .why2 .given .1),
-    )
-
-returns-3 : tie.Need-returns-3
-unfolding asked
-returns-3 c =
-    let b = c .before .before .before .before in
-    let a = b .before .before .before .before in
-    rw (
-      sym (a .before .before .before .number-at .ensures) ∙ ap drawnSays (a .before .feature .given .1),
-      sym (b .before .before .before .number-at2 .ensures) ∙ ap drawnSays (b .before .l .given .1),
-      sym (c .before .before .before .number-at3 .ensures) ∙ ap drawnSays (c .before .why3 .given .1),
-    )
-
-returns-4 : tie.Need-returns-4
-unfolding asked
-returns-4 c =
-    let d = c .before .before .before .before in
-    let b = d .before .before .before .before in
-    let a = b .before .before .before .before in
-    rw (
-      sym (a .before .before .before .number-at .ensures) ∙ ap drawnSays (a .before .feature .given .1),
-      sym (b .before .before .before .number-at2 .ensures) ∙ ap drawnSays (b .before .l .given .1),
-      sym (d .before .before .before .number-at3 .ensures) ∙ ap drawnSays (d .before .r .given .1),
-      sym (c .before .before .before .number-at4 .ensures) ∙ ap drawnSays (c .before .why4 .given .1),
-    )
-
-returns-5 : tie.Need-returns-5
-unfolding asked
-returns-5 c =
-    let d = c .before .before in
-    let e = d .before .before .before .before in
-    let b = e .before .before .before .before in
-    let a = b .before .before .before .before in
-    rw (
-      sym (a .before .before .before .number-at .ensures) ∙ ap drawnSays (a .before .feature .given .1),
-      sym (b .before .before .before .number-at2 .ensures) ∙ ap drawnSays (b .before .l .given .1),
-      sym (e .before .before .before .number-at3 .ensures) ∙ ap drawnSays (e .before .r .given .1),
-      sym (d .before .before .before .number-at4 .ensures) ∙ ap drawnSays (d .before .day .given .1),
-    )
-    (rw rest-of at (c .decide .ensures))
-
 pub question-spec : {M : Type 1} → statement M
+unfolding asked
 question-spec =
     tie.close
     (tie.spec
@@ -70,8 +19,26 @@ question-spec =
     (λ c. number-ends _ _ (sym (c .before .before .before .number-at4 .ensures) ∙ ap drawnSays (c .before .day .given .1)) .1)
     (λ c. let e = number-ends _ _ (sym (c .before .before .before .number-at4 .ensures) ∙ ap drawnSays (c .before .day .given .1)) in omega (arith, e))
     (λ c. search needs) (λ c κs. search needs)
-    returns
-    returns-2
-    returns-3
-    returns-4
-    returns-5)
+    (λ c. rw (← (c .before .before .before .number-at .ensures), c .before .why .given .1))
+    (λ c.
+    let f : tie.After-feature = search in
+    rw (← (f .before .before .number-at .ensures), f .feature .given .1, ← (c .before .before .before .number-at2 .ensures), c .before .why2 .given .1))
+    (λ c.
+    let f : tie.After-feature = search in
+    let l : tie.After-l = search in
+    rw (← (f .before .before .number-at .ensures), f .feature .given .1, ← (l .before .before .number-at2 .ensures), l .l .given .1)
+    (rw (← (c .before .before .before .number-at3 .ensures), c .before .why3 .given .1)))
+    (λ c.
+    let f : tie.After-feature = search in
+    let l : tie.After-l = search in
+    let r : tie.After-r = search in
+    rw (← (f .before .before .number-at .ensures), f .feature .given .1, ← (l .before .before .number-at2 .ensures), l .l .given .1)
+    (rw (← (r .before .before .number-at3 .ensures), r .r .given .1, ← (c .before .before .before .number-at4 .ensures), c .before .why4 .given .1)))
+    (λ c.
+    let f : tie.After-feature = search in
+    let l : tie.After-l = search in
+    let r : tie.After-r = search in
+    let d : tie.After-day = search in
+    rw (← (f .before .before .number-at .ensures), f .feature .given .1, ← (l .before .before .number-at2 .ensures), l .l .given .1)
+    (rw (← (r .before .before .number-at3 .ensures), r .r .given .1, ← (d .before .before .number-at4 .ensures), d .day .given .1)
+    (rw rest-of at (c .decide .ensures)))))
