@@ -3,7 +3,7 @@ use crate::script::Kind;
 use crate::script::draw;
 use crate::script::each;
 use crate::show;
-use grant::Decided;
+use decide::Decided;
 
 pub fn decided(d: Decided) {
     match d {
@@ -41,7 +41,7 @@ fn decide(feature: u32, l: u32, r: u32, day: u32, grants: &[u8]) {
     words(feature, l, r, day);
     show::bytes_after(b" by", grants);
     show::colon();
-    decided(grant::decide(feature, l, r, day, grants));
+    decided(decide::decide(feature, l, r, day, grants));
 }
 
 // The same from bytes: the four numbers, then the grants.
@@ -60,7 +60,7 @@ pub fn decide_case(bytes: &[u8]) {
 pub fn question(bytes: &[u8]) {
     show::bytes_after(b"question", bytes);
     show::colon();
-    decided(grant::question(bytes));
+    decided(decide::question(bytes));
 }
 
 // One grant, from day 10 to day 20, and without an end.

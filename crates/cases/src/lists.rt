@@ -44,11 +44,11 @@ fn long_lists() {
     let mut whole = [0u8; 20000];
     fill(&mut whole);
     show::text(b"decide by 4000 grants: ");
-    decided(grant::decide(7, 1, 1, 15, &whole));
+    decided(decide::decide(7, 1, 1, 15, &whole));
     let mut more = [0u8; 20001];
     fill(&mut more);
     show::text(b"decide by 4000 grants and a byte: ");
-    decided(grant::decide(7, 1, 1, 15, &more));
+    decided(decide::decide(7, 1, 1, 15, &more));
 }
 
 pub fn all() {

@@ -14,7 +14,7 @@ use Rattle.order.specs.Order as table
 use Rattle.refine.specs.Refine.{groupsOf}
 use Rattle.table.specs.Columns.{lOf, rOf}
 use Rattle.grant.specs.Grant.{Grant, grant, grantsBytes}
-use Rattle.grant.specs.Decision.{decided}
+use Rattle.decide.specs.Decision.{decided}
 use Rattle.ledger.specs.Ledger.{Ledger, freshLedger, ledgerOrder, afreshL, afreshR}
 use Rattle.ledger.specs.Decisions.{GroupGrant, ledgerDecided, Each}
 use Rattle.ledger.specs.Calls.{Call, ledgerReplies, ledgerEnd, explodedIn, engineReplies, engineEnd, engineStart}

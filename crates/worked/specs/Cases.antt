@@ -10,7 +10,8 @@ use Rattle.request.specs.Entries.{quotaOf}
 use Rattle.table.specs.Columns.{Row, Columns, columns, rows, counted, afterwards}
 use Rattle.fresh.specs.Fresh.{freshRows}
 use Rattle.grant.specs.Grant.{Grant, grantsBytes}
-use Rattle.grant.specs.Decision.{Decision, decided}
+use Rattle.decide.specs.Dating.{Decision}
+use Rattle.decide.specs.Decision.{decided}
 use Rattle.ledger.specs.Ledger.{Ledger, freshLedger, afreshL, afreshR}
 use Rattle.ledger.specs.Calls.{Call, Reply, engineStart, engineReplies, engineEnd, ledgerReplies, ledgerEnd}
 use Rattle.table.specs.Columns.{Table, rowsIn}

@@ -6,7 +6,7 @@ use Rattle.rules.specs.Answers.{answer, refused}
 use Rattle.table.specs.Columns.{Row}
 use Rattle.order.specs.Order.{Order, same, first, second, incomparable}
 use Rattle.grant.specs.Grant.{grant}
-use Rattle.grant.specs.Decision.{onOpen, onUntil, ended, ahead, never}
+use Rattle.decide.specs.Dating.{onOpen, onUntil, ended, ahead, never}
 use Rattle.ledger.specs.Calls.{Call, refine, order, Reply, refineSays, orderSays}
 use Rattle.worked.specs.Cases.{Case, stored, made, grown, logged, asked, row, stream}
 

@@ -1,6 +1,6 @@
 -- `zintukor::codes::decision_code` meets its contract: each case has its kind.
 use mathlib.Core.Path.{ap, sym, _∙_}
-use Rattle.grant.specs.Says.{decidedSays}
+use Rattle.decide.specs.Says.{decidedSays}
 use Rattle.zintukor.specs.Codes.{refusalCode, decisionCode}
 use borrow.Author.Needs.{needs}
 use Rattle.zintukor.proofs.codes.decision_code.Statement.{statement}
