@@ -23,7 +23,7 @@ use Rattle.refine.proofs.Fitting.{refined-most}
 use Rattle.stored.specs.Stored.{rowsAt, rowsToEnd, readRows, rowsBytes, tableBytes, storeAnswer}
 use Rattle.stored.proofs.Writing.{rows-most}
 use Rattle.stored.proofs.Laws.{rows-count}
-use Rattle.zintukor.specs.Small.{Small}
+use Rattle.zintukor.specs.inside.Small.{Small}
 
 -- what a small answer holds
 pub small-count : (a : Answer ℕ) {n : ℕ} → Small a → a ≡ answer n → n ≤ greatest

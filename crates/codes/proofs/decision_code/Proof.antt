@@ -1,19 +1,19 @@
--- `zintukor::codes::decision_code` meets its contract: each case has its kind.
+-- `codes::decision_code` meets its contract: each case has its kind.
 use mathlib.Core.Path.{ap, sym, _∙_}
 use Rattle.decide.specs.Says.{decidedSays}
-use Rattle.zintukor.specs.Codes.{refusalCode, decisionCode}
+use Rattle.codes.specs.Codes.{decisionCode}
 use borrow.Author.Needs.{needs}
-use Rattle.zintukor.proofs.codes.decision_code.Statement.{statement}
-use Rattle.zintukor.proofs.codes.decision_code.Tie as tie
+use Rattle.codes.proofs.decision_code.Statement.{statement}
+use Rattle.codes.proofs.decision_code.Tie as tie
 
 pub decision-code-spec : {M : Type 1} → statement M
 decision-code-spec =
     tie.close
     (tie.spec
     (λ c. search needs) (λ c κs. search needs) (λ c. search needs) (λ c κs. search needs) (λ c. search needs) (λ c κs. search needs) (λ c. search needs)
-    (λ c κs. search needs) (λ c. search needs) (λ c κs. search needs) (λ c. search needs) (λ c κs. search needs) (λ c κs. search needs) (λ c. search needs)
+    (λ c κs. search needs) (λ c. search needs) (λ c κs. search needs) (λ c. search needs) (λ c κs. search needs) (λ c. search needs)
     (λ c. c .encoded2 .ensures ∙ sym (ap (λ x. decisionCode (decidedSays x)) (c .before .before .a .given .1)))
     (λ c. c .encoded3 .ensures ∙ sym (ap (λ x. decisionCode (decidedSays x)) (c .before .before .a2 .given .1)))
     (λ c. c .encoded4 .ensures ∙ sym (ap (λ x. decisionCode (decidedSays x)) (c .before .before .a3 .given .1)))
     (λ c. search needs)
-    (λ c. c .encoded6 .ensures ∙ ap refusalCode (c .before .number .ensures) ∙ sym (ap (λ x. decisionCode (decidedSays x)) (c .before .before .before .a4 .given .1))))
+    (λ c. c .refusal-code .ensures ∙ sym (ap (λ x. decisionCode (decidedSays x)) (c .before .before .a4 .given .1))))

@@ -1,17 +1,15 @@
 // Answers as one number: a kind and a value.
 ghost use mathlib.Core.Path.{_≡_};
-ghost use Rattle.number.specs.Says.{writtenSays};
-ghost use Rattle.table.specs.Says.{countedSays};
 ghost use Rattle.order.specs.Says.{orderedSays};
 ghost use Rattle.decide.specs.Says.{decidedSays};
-ghost use Rattle.zintukor.specs.Codes.{countCode, orderCode, decisionCode};
-ghost use Rattle.zintukor.specs.Codes.{encoded as encodedAs};
-ghost use Rattle.zintukor.specs.Small.{Small};
+ghost use Rattle.rules.specs.Answers.{answer};
+ghost use Rattle.rules.specs.Refusals.{refusalNumber};
+ghost use Rattle.codes.specs.Codes.{refusalCode, countCode, orderCode, decisionCode};
+ghost use Rattle.codes.specs.Codes.{encoded as encodedAs};
 use decide::Decided;
-use number::Written;
 use order::Ordered;
 use rules::GREATEST;
-use table::Counted;
+use rules::Refusal;
 
 // The kinds. A refusal; the value is its number.
 const REFUSED: u32 = 0;
@@ -43,30 +41,22 @@ fn encoded(kind: u32, value: u32) -> u64
     kind as u64 * (GREATEST as u64 + 1) + value as u64
 }
 
-// The number of a count or a refusal.
-pub(crate) fn count_code(a: Counted) -> u64
-    requires { ⌜ Small (countedSays a) ⌝ }
-    ensures { λ t. ⌜ t ≡ countCode (countedSays a) ⌝ }
+// The number of a refusal.
+pub fn refusal_code(why: Refusal) -> u64
+    ensures { λ t. ⌜ t ≡ refusalCode (refusalNumber why) ⌝ }
 {
-    match a {
-        Counted::Count(n) => encoded(COUNT, n as u32),
-        Counted::Refused(why) => encoded(REFUSED, why.number()),
-    }
+    encoded(REFUSED, why.number())
 }
 
-// The number of a byte count or a refusal.
-pub(crate) fn written_code(a: Written) -> u64
-    requires { ⌜ Small (writtenSays a) ⌝ }
-    ensures { λ t. ⌜ t ≡ countCode (writtenSays a) ⌝ }
+// The number of a count or a byte count.
+pub fn count_code(n: u32) -> u64
+    ensures { λ t. ⌜ t ≡ countCode (answer n) ⌝ }
 {
-    match a {
-        Written::Bytes(n) => encoded(COUNT, n as u32),
-        Written::Refused(why) => encoded(REFUSED, why.number()),
-    }
+    encoded(COUNT, n)
 }
 
 // The number of an order or a refusal.
-pub(crate) fn order_code(a: Ordered) -> u64
+pub fn order_code(a: Ordered) -> u64
     ensures { λ t. ⌜ t ≡ orderCode (orderedSays a) ⌝ }
 {
     match a {
@@ -74,12 +64,12 @@ pub(crate) fn order_code(a: Ordered) -> u64
         Ordered::First => encoded(FIRST, 0),
         Ordered::Second => encoded(SECOND, 0),
         Ordered::Incomparable => encoded(INCOMPARABLE, 0),
-        Ordered::Refused(why) => encoded(REFUSED, why.number()),
+        Ordered::Refused(why) => refusal_code(why),
     }
 }
 
 // The number of a decision or a refusal.
-pub(crate) fn decision_code(a: Decided) -> u64
+pub fn decision_code(a: Decided) -> u64
     ensures { λ t. ⌜ t ≡ decisionCode (decidedSays a) ⌝ }
 {
     match a {
@@ -88,6 +78,6 @@ pub(crate) fn decision_code(a: Decided) -> u64
         Decided::Ended(day) => encoded(ENDED, day),
         Decided::Ahead(day) => encoded(AHEAD, day),
         Decided::Never => encoded(NEVER, 0),
-        Decided::Refused(why) => encoded(REFUSED, why.number()),
+        Decided::Refused(why) => refusal_code(why),
     }
 }
