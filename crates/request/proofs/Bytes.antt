@@ -2,13 +2,13 @@
 use mathlib.Core.Path.{_≡_, refl, sym, _∙_, ap}
 use mathlib.Core.Bool.{Bool, true, false}
 use mathlib.Core.List.{List, [], _++_, append-assoc, append-nil}
-use Prim.Native.Nat.{ℕ, zero, suc, _+_, _≤_, _<_}
+use Prim.Native.Nat.{ℕ, zero, suc, _+_, _≤_}
 use native.Mathlib.Omega.{arith}
 use lib.Dec.{leb}
 use lib.ListN.{length, take, drop, length-append, length-drop, length-take, take-append-drop}
 use lib.Seq.{drop-append-seam, drop-append-add}
 use borrow.Author.Tests.{ne-eqb, lt-ltb, le-ltb, leb-true, leb-false}
-use Rattle.rules.specs.Answers.{Answer, answer}
+use Rattle.rules.specs.Answers.{answer}
 use Rattle.rules.specs.Limits.{greatest, mostEntries, greatestDepth}
 use Rattle.number.specs.Number.{numberAt, bytesOf, found}
 use Rattle.number.proofs.Laws.{number-back, number-count}
@@ -18,7 +18,7 @@ use Rattle.request.specs.Numbering.{size}
 use Rattle.request.specs.Request.{Request}
 use Rattle.request.specs.Legal.{depth, Legal1, LegalTrees, Legal}
 use Rattle.request.specs.Bytes.{treeCount, directionNumber, treesBytes, requestBytes}
-use Rattle.request.specs.Reading.{positiveAt, entryAt, TreesRead, treesBy, treeBy, notFull, treesAt, directionOf, requestOf}
+use Rattle.request.specs.Reading.{positiveAt, entryAt, treesBy, treeBy, notFull, treesAt, directionOf, requestOf}
 use Rattle.request.proofs.Numbering.{size-length}
 
 -- ## Numbers and entries

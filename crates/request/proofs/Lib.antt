@@ -3,7 +3,8 @@ pub mod Trees
 pub mod Numbering
 pub mod ReadLaws
 pub mod Accepting
-pub mod ReadingLaws
+pub mod Walking
+pub mod Parts
 pub mod Work
 pub mod Bytes
 pub mod Reversed

@@ -50,14 +50,6 @@ module _ (w : Entry) (c r : Forest) (pos : Positive (preL (tree w c r))) (d : Di
       let u = d x in
       at-beyond x w c r pos (pick-false (eqb x (w .id)) (omega arith)) (omega arith) (omega arith)
 
-  -- the three parts of a list over a tree's entries
-  parts : (h f g : Entry → ℕ) (n : ℕ) → (Root (w .id) w c r → n ≡ h w) → ((e : Entry) → Inside (e .id) w c r → f e ≡ h e) → ((e : Entry) → Beyond (e .id) w c r → g e ≡ h e)
-      → (n ∷ map f (preL c) ++ map g (preL r)) ≡ map h (preL (tree w c r))
-  parts h f g n a b k =
-      ap₂ (λ x l. x ∷ l) (a the-root)
-      (ap₂ (λ x y. x ++ y) (map-at f h (preL c) (λ e m. b e (in-children (e .id) m))) (map-at g h (preL r) (λ e m. k e (in-rest (e .id) m)))
-      ∙ sym (map-append h (preL c) (preL r)))
-
   distinct-c : Distinct (preL c)
   distinct-c x = omega (arith, sum-append (oneAt x) (preL c) (preL r), d x)
 
@@ -70,17 +62,25 @@ module _ (w : Entry) (c r : Forest) (pos : Positive (preL (tree w c r))) (d : Di
   positive-r : Positive (preL r)
   positive-r = omega (arith, sum-append noQuota (preL c) (preL r))
 
-upL-is : (b : ℕ) (t : Forest) → Positive (preL t) → Distinct (preL t) → upL b t ≡ map (λ e. b + before (e .id) (preL t)) (preL t)
-upL-is b none pos d = refl
-upL-is b (tree w c r) pos d =
-    rw (upL-is (b + quota w) c (positive-c w c r pos d) (distinct-c w c r pos d), upL-is (b + quota w + whole c) r (positive-r w c r pos d) (distinct-r w c r pos d), whole-total c)
-    (parts w c r pos d (λ e. b + before (e .id) (preL (tree w c r))) _ _ b (λ a. omega arith) (λ e a. omega arith) (λ e a. omega arith))
+-- a walk gives a tree's root a number, and beginnings to the part of its children and to that of the trees to its right, as a sequence has them
+abbrev Follows : (ℕ → Forest → List ℕ) → (Forest → List Entry) → Type 0
+Follows walk seq =
+    (b : ℕ) (w : Entry) (c r : Forest) → (n i j : ℕ) × (walk b (tree w c r) ≡ n ∷ walk i c ++ walk j r) × (Root (w .id) w c r → n ≡ b + before (w .id) (seq (tree w c r)))
+    × ((x : ℕ) → Inside x w c r → i + before x (seq c) ≡ b + before x (seq (tree w c r))) × ((x : ℕ) → Beyond x w c r → j + before x (seq r) ≡ b + before x (seq (tree w c r)))
 
-upR-is : (b : ℕ) (t : Forest) → Positive (preL t) → Distinct (preL t) → upR b t ≡ map (λ e. b + before (e .id) (preR t)) (preL t)
-upR-is b none pos d = refl
-upR-is b (tree w c r) pos d =
-    rw (upR-is (b + whole r + quota w) c (positive-c w c r pos d) (distinct-c w c r pos d), upR-is b r (positive-r w c r pos d) (distinct-r w c r pos d), whole-total r)
-    (parts w c r pos d (λ e. b + before (e .id) (preR (tree w c r))) _ _ _ (λ a. omega arith) (λ e a. omega arith) (λ e a. omega arith))
+-- it gives every entry the quotas before it in the sequence
+numbers-are : (walk : ℕ → Forest → List ℕ) (seq : Forest → List Entry) → ((b : ℕ) → walk b none ≡ []) → Follows walk seq
+    → (b : ℕ) (t : Forest) → Positive (preL t) → Distinct (preL t) → walk b t ≡ map (λ e. b + before (e .id) (seq t)) (preL t)
+numbers-are walk seq start follows b none pos d = start b
+numbers-are walk seq start follows b (tree w c r) pos d =
+    let f = follows b w c r in
+    let h : Entry → ℕ = λ e. b + before (e .id) (seq (tree w c r)) in
+    f .3
+    ∙ ap₂ (λ n l. n ∷ l) (f .4 (the-root w c r pos d))
+    (ap₂ (λ k l. k ++ l)
+    (numbers-are walk seq start follows (f .1) c (positive-c w c r pos d) (distinct-c w c r pos d) ∙ map-at _ h (preL c) (λ e m. f .5 (e .id) (in-children w c r pos d (e .id) m)))
+    (numbers-are walk seq start follows (f .2) r (positive-r w c r pos d) (distinct-r w c r pos d) ∙ map-at _ h (preL r) (λ e m. f .6 (e .id) (in-rest w c r pos d (e .id) m)))
+    ∙ sym (map-append h (preL c) (preL r)))
 
 -- what stands before an entry in a post-order, by what stands before it in the other pre-order
 postL-before : (x : ℕ) (t : Forest) → times x (preL t) ≡ 1 → before x (postL t) + (before x (preR t) + quotaOf x (preL t)) ≡ whole t
@@ -91,31 +91,45 @@ postL-before x t h =
 postR-before : (x : ℕ) (t : Forest) → times x (preL t) ≡ 1 → before x (postR t) + (before x (preL t) + quotaOf x (preL t)) ≡ whole t
 postR-before x t h = omega (arith, ap (before x) (postR-reverse t), before-reverse x (preL t) h, whole-total t)
 
-downL-is : (b : ℕ) (t : Forest) → Positive (preL t) → Distinct (preL t) → downL b t ≡ map (λ e. b + before (e .id) (postL t)) (preL t)
-downL-is b none pos d = refl
-downL-is b (tree w c r) pos d =
-    let t = tree w c r in
-    let n = whole-total c in
-    let m = whole-total r in
-    rw (downL-is b c (positive-c w c r pos d) (distinct-c w c r pos d), downL-is (b + whole c + quota w) r (positive-r w c r pos d) (distinct-r w c r pos d))
-    (parts w c r pos d (λ e. b + before (e .id) (postL t)) _ _ _ (λ a. omega (arith, postL-before (w .id) t (a .once)))
-    (λ e a. omega (arith, postL-before (e .id) t (a .once), postL-before (e .id) c (a .in-c))) (λ e a. omega (arith, postL-before (e .id) t (a .once), postL-before (e .id) r (a .in-r))))
+upL-follows : Follows upL preL
+upL-follows b w c r = let n = whole-total c in (_, _, _, refl, λ a. omega arith, λ x a. omega arith, λ x a. omega arith)
 
-downR-is : (b : ℕ) (t : Forest) → Positive (preL t) → Distinct (preL t) → downR b t ≡ map (λ e. b + before (e .id) (postR t)) (preL t)
-downR-is b none pos d = refl
-downR-is b (tree w c r) pos d =
+upR-follows : Follows upR preR
+upR-follows b w c r = let n = whole-total r in (_, _, _, refl, λ a. omega arith, λ x a. omega arith, λ x a. omega arith)
+
+downL-follows : Follows downL postL
+downL-follows b w c r =
     let t = tree w c r in
     let n = whole-total c in
-    let m = whole-total r in
-    rw (downR-is (b + whole r) c (positive-c w c r pos d) (distinct-c w c r pos d), downR-is b r (positive-r w c r pos d) (distinct-r w c r pos d))
-    (parts w c r pos d (λ e. b + before (e .id) (postR t)) _ _ _ (λ a. omega (arith, postR-before (w .id) t (a .once)))
-    (λ e a. omega (arith, postR-before (e .id) t (a .once), postR-before (e .id) c (a .in-c))) (λ e a. omega (arith, postR-before (e .id) t (a .once), postR-before (e .id) r (a .in-r))))
+    let m = whole-total r in (
+      _,
+      _,
+      _,
+      refl,
+      λ a. omega (arith, postL-before (w .id) t (a .once)),
+      λ x a. omega (arith, postL-before x t (a .once), postL-before x c (a .in-c)),
+      λ x a. omega (arith, postL-before x t (a .once), postL-before x r (a .in-r)),
+    )
+
+downR-follows : Follows downR postR
+downR-follows b w c r =
+    let t = tree w c r in
+    let n = whole-total c in
+    let m = whole-total r in (
+      _,
+      _,
+      _,
+      refl,
+      λ a. omega (arith, postR-before (w .id) t (a .once)),
+      λ x a. omega (arith, postR-before x t (a .once), postR-before x c (a .in-c)),
+      λ x a. omega (arith, postR-before x t (a .once), postR-before x r (a .in-r)),
+    )
 
 -- what a walk writes is what the rules say
 pub lefts-are : (d : Direction) (b : ℕ) (t : Forest) → Positive (preL t) → Distinct (preL t) → lefts d b t ≡ map (λ e. b + before (e .id) (left d t)) (preL t)
-lefts-are upright b t pos d = upL-is b t pos d
-lefts-are inverted b t pos d = downL-is b t pos d
+lefts-are upright = numbers-are upL preL (λ b. refl) upL-follows
+lefts-are inverted = numbers-are downL postL (λ b. refl) downL-follows
 
 pub rights-are : (d : Direction) (b : ℕ) (t : Forest) → Positive (preL t) → Distinct (preL t) → rights d b t ≡ map (λ e. b + before (e .id) (right d t)) (preL t)
-rights-are upright b t pos d = upR-is b t pos d
-rights-are inverted b t pos d = downR-is b t pos d
+rights-are upright = numbers-are upR preR (λ b. refl) upR-follows
+rights-are inverted = numbers-are downR postR (λ b. refl) downR-follows

@@ -7,17 +7,17 @@ use native.Mathlib.Omega.{arith}
 use lib.Dec.{eqb, ltb, leb}
 use lib.ListN.{length, length-append}
 use borrow.Author.Tests.{eqb-false, ltb-true, ne-eqb}
-use Rattle.rules.specs.Answers.{Answer, answer}
+use Rattle.rules.specs.Answers.{answer}
 use Rattle.rules.specs.Limits.{greatest, mostEntries, greatestDepth}
 use Rattle.rules.specs.Buffers.{Bytes}
 use Rattle.rules.proofs.Answers.{same-answer, never-refused, peel, wanted, then-answer}
 use Rattle.number.specs.Number.{Number, numberAt}
 use Rattle.number.proofs.Laws.{number-fits}
-use Rattle.request.specs.Entries.{entry, pick, oneAt, noQuota, times, Positive}
-use Rattle.request.specs.Forest.{none, tree, preL}
+use Rattle.request.specs.Entries.{Entry, entry, pick, oneAt, noQuota, times, Positive}
+use Rattle.request.specs.Forest.{Forest, none, tree, preL}
 use Rattle.request.specs.Request.{Request, entries}
 use Rattle.request.specs.Legal.{depth, LegalTrees, Legal}
-use Rattle.request.specs.Reading.{positiveAt, EntryRead, entryAt, TreeRead, TreesRead, treesBy, treeBy, notFull, treesAt, requestOf}
+use Rattle.request.specs.Reading.{positiveAt, EntryRead, entryAt, TreeRead, TreesRead, treesBy, treeBy, notFull, treeAt, treesAt, requestOf}
 use Rattle.request.proofs.Sums.{sum-append}
 
 pub positive-some : (bytes : List ℕ) (at : ℕ) {n : Number} → positiveAt bytes at ≡ answer n → 1 ≤ n .value
@@ -75,9 +75,13 @@ deeper true c r room h k = omega arith
 deeper false c r room h k = omega arith
 
 -- a tree and the trees to its right
+abbrev pub beside : Entry → Forest → TreesRead → TreesRead
+beside e c r = record { trees = tree e c (r .trees); next = r .next; used = r .used }
+
 module _ (bytes : List ℕ) (room n used : ℕ) (e : EntryRead) (c r : TreesRead) where
-  read-tree : (1 ≤ e .id) × (1 ≤ e .quota) → (Bytes bytes → (e .id ≤ greatest) × (e .quota ≤ greatest)) → used < mostEntries → ReadTrees bytes room (e .children) (used + 1) c → ReadTrees bytes (suc room) n (c .used) r
-      → ReadTrees bytes (suc room) (suc n) used (record { trees = tree (entry (e .id) (e .quota)) (c .trees) (r .trees); next = r .next; used = r .used })
+  read-tree : (1 ≤ e .id) × (1 ≤ e .quota) → (Bytes bytes → (e .id ≤ greatest) × (e .quota ≤ greatest)) → used < mostEntries
+      → ReadTrees bytes room (e .children) (used + 1) c → ReadTrees bytes (suc room) n (c .used) r
+      → ReadTrees bytes (suc room) (suc n) used (beside (entry (e .id) (e .quota)) (c .trees) r)
   read-tree s g h k m =
       let i : pick (eqb 0 (e .id)) 1 0 ≡ 0 = rw (ne-eqb 0 (e .id) (omega (arith, s .0))) in
       let q : pick (eqb (e .quota) 0) 1 0 ≡ 0 = rw (ne-eqb (e .quota) 0 (omega (arith, s .1))) in
@@ -101,15 +105,14 @@ not-full used h = ltb-true _ _ (wanted (ltb used mostEntries) _ _ h .0)
 -- a first tree, and the others
 read-first : (bytes : List ℕ) (room n at used : ℕ) (t : TreeRead) (r : TreesRead)
     → ((m p k : ℕ) (c : TreesRead) → treesAt room m bytes p k ≡ answer c → ReadTrees bytes room m k c)
-    → treeBy notFull (entryAt bytes) (suc room) at used ≡ answer t → ReadTrees bytes (suc room) n (t .used) r
-    → ReadTrees bytes (suc room) (suc n) used (record { trees = tree (t .root) (t .children) (r .trees); next = r .next; used = r .used })
+    → treeAt (suc room) bytes at used ≡ answer t → ReadTrees bytes (suc room) n (t .used) r
+    → ReadTrees bytes (suc room) (suc n) used (beside (t .root) (t .children) r)
 unfolding treesAt treeBy
 read-first bytes room n at used t r below h =
     let f = then-answer (notFull used) _ h in
     let e = then-answer (entryAt bytes at) _ (f .2) in
     let c = then-answer (treesAt room (e .0 .children) bytes (e .0 .next) (used + 1)) _ (e .2) in
-    subst (λ (t : TreeRead). ReadTrees bytes (suc room) n (t .used) r → ReadTrees bytes (suc room) (suc n) used (record { trees = tree (t .root) (t .children) (r .trees); next = r .next; used = r .used }))
-    (same-answer (c .2))
+    subst (λ (t : TreeRead). ReadTrees bytes (suc room) n (t .used) r → ReadTrees bytes (suc room) (suc n) used (beside (t .root) (t .children) r)) (same-answer (c .2))
     (read-tree bytes room n used (e .0) (c .0) r (entry-some bytes at (e .1)) (λ b. entry-fits bytes at b (e .1)) (not-full used (f .1)) (below _ _ _ _ (c .1)))
 
 read-by : (bytes : List ℕ) (room : ℕ) → ((m p k : ℕ) (c : TreesRead) → treesAt room m bytes p k ≡ answer c → ReadTrees bytes room m k c)
@@ -117,14 +120,14 @@ read-by : (bytes : List ℕ) (room : ℕ) → ((m p k : ℕ) (c : TreesRead) →
 unfolding treesAt treesBy
 read-by bytes room below zero at used e = rw (← (same-answer e)) (read-none bytes (suc room) used at)
 read-by bytes room below (suc n) at used e =
-    let t = then-answer (treeBy notFull (entryAt bytes) (suc room) at used) _ e in
+    let t = then-answer (treeAt (suc room) bytes at used) _ e in
     let r = then-answer (treesAt (suc room) n bytes (t .0 .next) (t .0 .used)) _ (t .2) in
     rw (← (same-answer (r .2))) (read-first bytes room n at used (t .0) (r .0) below (t .1) (read-by bytes room below n (t .0 .next) (t .0 .used) (r .1)))
 
 pub read-trees : (room n : ℕ) (bytes : List ℕ) (at used : ℕ) {a : TreesRead} → treesAt room n bytes at used ≡ answer a → ReadTrees bytes room n used a
 unfolding treesAt treesBy treeBy
 read-trees zero zero bytes at used e = rw (← (same-answer e)) (read-none bytes 0 used at)
-read-trees zero (suc n) bytes at used e = never-refused (then-answer (notFull used) _ (then-answer (treeBy notFull (entryAt bytes) 0 at used) _ e .1) .2)
+read-trees zero (suc n) bytes at used e = never-refused (then-answer (notFull used) _ (then-answer (treeAt 0 bytes at used) _ e .1) .2)
 read-trees (suc room) n bytes at used e = read-by bytes room (λ m p k c. read-trees room m bytes p k) n at used e
 
 pub record ReadRequest (q : Request) : Type 0 where

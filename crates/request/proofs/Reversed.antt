@@ -2,14 +2,14 @@
 use mathlib.Core.Path.{_≡_, refl, ap, ap₂, sym, _∙_}
 use mathlib.Core.Bool.{Bool, true, false}
 use mathlib.Core.List.{List, [], _∷_, _++_, reverse, reverse-cons, reverse-append, append-assoc}
-use mathlib.Core.Logic.{_↔_, _⊎_, inl, inr}
+use mathlib.Core.Logic.{_↔_, inl, inr}
 use Prim.Native.Nat.{ℕ, _+_, _≤_}
 use native.Mathlib.Omega.{arith}
 use lib.Dec.{eqb}
 use Rattle.rules.proofs.Cases.{by-eq}
-use Rattle.request.specs.Entries.{Entry, pick, quota, oneAt, sum, total, times, quotaOf, before, Same, Positive}
+use Rattle.request.specs.Entries.{Entry, pick, quota, oneAt, total, times, quotaOf, before, Same, Positive}
 use Rattle.request.specs.Forest.{Forest, none, tree, preL, preR, postL, postR}
-use Rattle.request.proofs.Sums.{sum-append, before-left, before-right, before-here, before-past, quota-none, positive-quota, Clear, apart}
+use Rattle.request.proofs.Sums.{sum-append, before-left, before-right, before-here, quota-none, positive-quota, Clear, apart}
 
 pub postL-reverse : (t : Forest) → postL t ≡ reverse (preR t)
 postL-reverse none = refl

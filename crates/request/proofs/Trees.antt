@@ -1,13 +1,14 @@
 -- Theorem 1 of the paper, for the two directions: the order of the trees is the common order of the two sequences.
 use mathlib.Core.Path.{_≡_, refl, sym, _∙_}
 use mathlib.Core.Bool.{Bool, true, false, _&&_, _||_, or-false}
-use mathlib.Core.List.{List, [], _∷_, _++_}
+use mathlib.Core.List.{List, _∷_, _++_}
 use Prim.Native.Nat.{ℕ, zero, suc, _+_, _≤_, _<_}
 use native.Mathlib.Omega.{arith}
 use lib.Dec.{eqb, leb}
 use Rattle.request.specs.Entries.{pick, quota, oneAt, quotaAt, noQuota, Entry, total, times, quotaOf, has, before, Same, Positive}
 use Rattle.request.specs.Forest.{Forest, none, tree, Direction, upright, inverted, preL, preR, postL, postR, left, right, above, treeOrder}
-use Rattle.request.proofs.Sums.{sum-append, before-left, before-right, before-within, before-here, before-past, quota-none, positive-quota, some-quota, noLater, no-later, later-l, later-r, later-iff, later-swap}
+use Rattle.request.proofs.Sums.{sum-append, before-left, before-right, before-within, before-here, before-past, quota-none, positive-quota, some-quota}
+use Rattle.request.proofs.Sums.{noLater, no-later, later-l, later-r, later-iff, later-swap}
 use Rattle.request.proofs.Reversed.{postL-reverse, postR-reverse, same-reverse, order-reverse}
 
 -- each of the sequences holds the entries

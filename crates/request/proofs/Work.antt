@@ -8,6 +8,7 @@ use lib.ListN.{length, getD, length-set}
 use lib.Seq.{getD-set-same, getD-set-other}
 use Rattle.rules.specs.Answers.{Answer, answer, refused}
 use Rattle.rules.specs.Buffers.{Bytes}
+use Rattle.rules.specs.Capacities.{entryCapacity}
 use Rattle.rules.specs.Limits.{mostEntries}
 use Rattle.rules.proofs.Answers.{same-answer, never-refused, then-refused}
 use Rattle.request.specs.Forest.{Forest, none, tree, Direction, upright, inverted}
@@ -155,11 +156,11 @@ pub received : (bytes : List ℕ) (w v : Work) {x u z : ℕ} {up : Bool} → ans
 received bytes w v e h = received-as bytes w v (requestOf bytes) refl e h
 
 -- its trees stand in the work columns
-pub received-trees : {bytes : List ℕ} {w v : Work} {x u z : ℕ} {up : Bool} → Bytes bytes → (r : Received bytes w v x up u z) → Places mostEntries v
+pub received-trees : {bytes : List ℕ} {w v : Work} {x u z : ℕ} {up : Bool} → Bytes bytes → (r : Received bytes w v x up u z) → Places entryCapacity v
     → TreesIn v 0 (r .request .trees)
 received-trees {bytes} {w} {v} b r p =
     let t = r .request .trees in
-    rw (r .written) (filled-in w 0 t (filled-back w 0 t (subst (Places mostEntries) (r .written) p)) (omega (arith, r .entries-are, r .entries-most)) (request-legal bytes b (r .is) .trees))
+    rw (r .written) (filled-in w 0 t (filled-back w 0 t (subst (Places entryCapacity) (r .written) p)) (omega (arith, r .entries-are, r .entries-most)) (request-legal bytes b (r .is) .trees))
 
 -- `read_request` refuses
 pub not-received : (bytes : List ℕ) {n : ℕ} → refused n ≡ summary (requestOf bytes) → requestOf bytes ≡ refused n

@@ -64,9 +64,12 @@ treeBy before read (suc room) at used =
 unfoldable pub notFull : ℕ → Answer (Unit {0})
 notFull used = cond (ltb used mostEntries) (answer tt) (refused 7)
 
--- the trees of a request; a root has depth 1
+-- a tree of a request, and its trees; a root has depth 1
+abbrev pub treeAt : ℕ → List ℕ → ℕ → ℕ → Answer TreeRead
+treeAt room bytes at used = treeBy notFull (entryAt bytes) room at used
+
 unfoldable pub treesAt : ℕ → ℕ → List ℕ → ℕ → ℕ → Answer TreesRead
-treesAt room n bytes at used = treesBy (treeBy notFull (entryAt bytes) room) n at used
+treesAt room n bytes at used = treesBy (treeAt room bytes) n at used
 
 -- direction, 0 upright or 1 inverted
 unfoldable pub directionOf : ℕ → Direction

@@ -1,6 +1,6 @@
 -- `request::reading::read_trees` meets its contract. The loop's invariant: the trees that are left, from here, make the whole, and those that
 -- are done are written to the work columns. The measure of the calls is the room for depths.
-use mathlib.Core.Path.{_≡_, sym, ap, _∙_}
+use mathlib.Core.Path.{sym, ap, _∙_}
 use native.Mathlib.Omega.{arith}
 use borrow.Author.Needs.{needs}
 use lib.ListN.{set}
@@ -8,11 +8,9 @@ use denote.Ref.{now}
 use Prim.Native.Nat.{ℕ, _<_}
 use borrow.Fn.Kinds.{In}
 use borrow.Fn.PlainCycle.{Measures, is, falls, and}
-use Rattle.rules.specs.Answers.{Answer, answer}
-use Rattle.request.specs.Reading.{EntryRead, entryAt}
 use Rattle.request.specs.inside.Says.{entrySays, walkSays}
 use Rattle.request.specs.inside.Work.{work}
-use Rattle.request.proofs.ReadingLaws.{Reading, Inner, begin, refuse, ended, again, sum-bound, inner-found, reach-refused, trees-full, trees-deep, trees-cut, trees-below}
+use Rattle.request.proofs.Walking.{Reading, Inner, begin, refuse, ended, again, sum-bound, inner-found, walk-refused, tree-full, tree-deep, tree-cut, below-refused}
 use Rattle.request.proofs.reading.read_trees.Reads as read-trees
 use Rattle.request.proofs.reading.read_trees.Kinds as read-trees-kinds
 use Rattle.request.proofs.reading.+read_trees.Lts-read_trees as lts
@@ -75,32 +73,34 @@ below t c =
 
 pub +read-trees-spec : {M : Type 1} → statement M
 +read-trees-spec = close μ-read-trees λ t. lts.spec (claims t) (at-measure t) read-trees.Post Inv-loop μ-loop
-    (λ c. begin _ _ _ _ _ _ (c .before .pre .1))
-    (λ c. refuse _ _ _ _ _ _ (c .before .before .loop .inv) _ (trees-full _ _ _ _ _ (c .before .loop-test .taken) (c .if1 .taken)))
-    (λ c. refuse _ _ _ _ _ _ (c .before .before .before .loop .inv) _ (trees-deep _ _ _ _ _ (c .before .before .loop-test .taken) (c .before .if1 .left) (c .if2 .taken)))
+    (λ c. begin (c .before .pre .1))
+    (λ c. refuse (c .before .before .loop .inv) _ (c .before .loop-test .taken) (tree-full _ _ _ _ (c .if1 .taken)))
+    (λ c. refuse (c .before .before .before .loop .inv) _ (c .before .before .loop-test .taken) (tree-deep _ _ _ _ (c .before .if1 .left) (c .if2 .taken)))
     (λ c κs. search needs) (λ c. search needs)
-    (λ c. let e = c .before .before .before in
-    refuse _ _ _ _ _ _ (e .before .before .before .before .loop .inv) _
-    (trees-cut _ _ _ _ _ (e .before .before .before .loop-test .taken) (e .before .before .if1 .left) (e .before .if2 .left) (sym (e .entry-at .ensures) ∙ ap entrySays (c .before .why .given .1))))
+    (λ c.
+    let e = c .before .before .before in
+    refuse (e .before .before .before .before .loop .inv) _ (e .before .before .before .loop-test .taken)
+    (tree-cut _ _ _ _ (e .before .before .if1 .left) (e .before .if2 .left) (sym (e .entry-at .ensures) ∙ ap entrySays (c .before .why .given .1))))
     (λ c. search needs) (λ c. search needs) (λ c. search needs) (λ c. search needs) (λ c. search needs) (λ c. search needs) (λ c. search needs)
-    (λ c κs. let e = c .before .before .before .before in
+    (λ c κs.
+    let e = c .before .before .before .before in
     (omega (arith, e .before .before .before .before .if2 .left, loop-of e .before .before .pre .0), omega (arith, e .before .before .before .before .before .if1 .left)))
     (λ c. search needs)
     (λ c.
     let r = c .before .before .before .read-trees in
     let e : AtEntry t = c .before .before .before .before .before .before .before .before in
     let g = e .before .before .before in
-    refuse _ _ _ _ _ _ (loop-of e .loop .inv) _
-    (trees-below _ _ _ _ _ (g .before .before .before .loop-test .taken) (g .before .before .if1 .left) (g .before .if2 .left) (sym (g .entry-at .ensures) ∙ ap entrySays (e .before .id .given .1))
-    (reach-refused _ (sym (ap walkSays (c .before .why2 .given .1)) ∙ r .ensures .0))))
+    refuse (loop-of e .loop .inv) _ (g .before .before .before .loop-test .taken)
+    (below-refused _ _ _ _ (g .before .before .if1 .left) (g .before .if2 .left) (sym (g .entry-at .ensures) ∙ ap entrySays (e .before .id .given .1))
+    (walk-refused _ (sym (ap walkSays (c .before .why2 .given .1)) ∙ r .ensures .0))))
     (λ c. search needs) (λ c. search needs)
     (λ c. let i = below t c in omega (arith, i .small, i .counted, i .most, entry-of c .known-told2 .given))
     (λ c. search needs) (λ c. search needs) (λ c. search needs) (λ c. search needs)
-    (λ c. let i = below t c in omega (arith, i .small, i .counted, i .most, entry-of c .known-told2 .given, sum-bound _ _ _ _ _ _ (loop-of (entry-of c) .loop .inv)))
+    (λ c. let i = below t c in omega (arith, i .small, i .counted, i .most, entry-of c .known-told2 .given, sum-bound (loop-of (entry-of c) .loop .inv)))
     (λ c. search needs) (λ c. search needs)
     (λ c.
     let e = entry-of c in
     let g = e .before .before .before in
-    again _ _ _ _ _ _ (loop-of e .loop .inv) (g .before .before .before .loop-test .taken) (g .before .before .if1 .left) (g .before .if2 .left) (sym (ap entrySays (e .before .id .given .1)) ∙ g .entry-at .ensures)
-    (omega (arith, e .known-told2 .given)) (below t c))
-    (λ c. ended _ _ _ _ _ _ (c .before .loop .inv) (c .loop-test .left))
+    again (loop-of e .loop .inv) (g .before .before .before .loop-test .taken) (g .before .before .if1 .left) (g .before .if2 .left)
+    (sym (ap entrySays (e .before .id .given .1)) ∙ g .entry-at .ensures) (omega (arith, e .known-told2 .given)) (below t c))
+    (λ c. ended (c .before .loop .inv) (c .loop-test .left))

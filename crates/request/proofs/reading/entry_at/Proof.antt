@@ -1,27 +1,28 @@
 -- `request::reading::entry_at` meets its contract: id, quota and number of children, and the first refusal met.
-use mathlib.Core.Path.{sym, ap, _∙_}
+use mathlib.Core.Path.{_≡_, sym, ap, _∙_}
+use mathlib.Core.List.{List}
+use Prim.Native.Nat.{ℕ}
+use denote.Ref.{now}
+use Rattle.number.specs.Number.{found}
+use Rattle.request.specs.Reading.{positiveAt}
 use Rattle.number.specs.Says.{drawnSays}
-use Rattle.request.proofs.ReadingLaws.{entry-no-id, entry-no-quota, entry-no-children, entry-found}
+use Rattle.request.proofs.Parts.{entry-no-id, entry-no-quota, entry-no-children, entry-found}
 use borrow.Author.Needs.{needs}
 use Rattle.request.proofs.reading.entry_at.Statement.{statement}
 use Rattle.request.proofs.reading.entry_at.Tie as tie
 
-returns-2 : tie.Need-returns-2
-returns-2 c =
-    entry-no-quota _ _ (sym (ap drawnSays (c .before .before .before .before .before .id .given .1)) ∙ c .before .before .before .before .before .before .before .positive-at .ensures)
-    (sym (ap drawnSays (c .before .why2 .given .1)) ∙ c .before .before .before .positive-at2 .ensures)
+-- the places where id and quota are read
+abbrev id-of : tie.After-known-told4 → tie.After-known-told2
+id-of c = c .before .before .before .before
 
-returns-3 : tie.Need-returns-3
-returns-3 c =
-    entry-no-children _ _ (sym (ap drawnSays (c .before .before .before .before .before .before .before .before .before .id .given .1)) ∙ c .before .before .before .before .before .before .before .before .before .before .before .positive-at .ensures)
-    (sym (ap drawnSays (c .before .before .before .before .before .quota .given .1)) ∙ c .before .before .before .before .before .before .before .positive-at2 .ensures)
-    (sym (ap drawnSays (c .before .why3 .given .1)) ∙ c .before .before .before .draw-at .ensures)
+abbrev bytes : tie.After-known-told2 → List ℕ
+bytes c = now (c .before .before .before .before .before .args .bytes)
 
-returns-4 : tie.Need-returns-4
-returns-4 c =
-    entry-found _ _ (sym (ap drawnSays (c .before .before .before .before .before .before .before .before .before .id .given .1)) ∙ c .before .before .before .before .before .before .before .before .before .before .before .positive-at .ensures)
-    (sym (ap drawnSays (c .before .before .before .before .before .quota .given .1)) ∙ c .before .before .before .before .before .before .before .positive-at2 .ensures)
-    (sym (ap drawnSays (c .before .children .given .1)) ∙ c .before .before .before .draw-at .ensures)
+id-at : (c : tie.After-known-told2) → let x = c .before .id .given .0 in found (x .0) (x .1 .0) ≡ positiveAt (bytes c) (c .before .before .before .before .before .args .at)
+id-at c = sym (ap drawnSays (c .before .id .given .1)) ∙ c .before .before .before .positive-at .ensures
+
+quota-at : (c : tie.After-known-told4) → let x = c .before .quota .given .0 in found (x .0) (x .1 .0) ≡ positiveAt (bytes (id-of c)) (id-of c .before .id .given .0 .1 .0)
+quota-at c = sym (ap drawnSays (c .before .quota .given .1)) ∙ c .before .before .before .positive-at2 .ensures
 
 pub entry-at-spec : {M : Type 1} → statement M
 entry-at-spec =
@@ -30,6 +31,10 @@ entry-at-spec =
     (λ c κs. search needs) (λ c. search needs) (λ c. search needs) (λ c κs. search needs) (λ c. search needs) (λ c. search needs) (λ c κs. search needs)
     (λ c. search needs) (λ c. search needs)
     (λ c. entry-no-id _ _ (sym (ap drawnSays (c .before .why .given .1)) ∙ c .before .before .before .positive-at .ensures))
-    returns-2
-    returns-3
-    returns-4)
+    (λ c. entry-no-quota _ _ (id-at (c .before .before .before .before)) (sym (ap drawnSays (c .before .why2 .given .1)) ∙ c .before .before .before .positive-at2 .ensures))
+    (λ c.
+    let q = c .before .before .before .before in
+    entry-no-children _ _ (id-at (id-of q)) (quota-at q) (sym (ap drawnSays (c .before .why3 .given .1)) ∙ c .before .before .before .draw-at .ensures))
+    (λ c.
+    let q = c .before .before .before .before in
+    entry-found _ _ (id-at (id-of q)) (quota-at q) (sym (ap drawnSays (c .before .children .given .1)) ∙ c .before .before .before .draw-at .ensures)))

@@ -1,7 +1,7 @@
 -- `request::reading::positive_at` meets its contract: the number that stands there, and 4 where it is 0.
 use mathlib.Core.Path.{sym, ap, _∙_}
 use Rattle.number.specs.Says.{drawnSays}
-use Rattle.request.proofs.ReadingLaws.{positive-refused, positive-zero, positive-found}
+use Rattle.request.proofs.Parts.{positive-refused, positive-zero, positive-found}
 use borrow.Author.Needs.{needs}
 use Rattle.request.proofs.reading.positive_at.Statement.{statement}
 use Rattle.request.proofs.reading.positive_at.Tie as tie

@@ -7,7 +7,8 @@ use Rattle.number.specs.Number.{found, numberAt}
 use Rattle.number.specs.Says.{drawnSays}
 use Rattle.request.specs.Reading.{positiveAt}
 use Rattle.request.specs.inside.Says.{walkSays}
-use Rattle.request.proofs.ReadingLaws.{Begun, refusal, no-exploded, no-direction, odd-direction, no-count, no-trees, remain, read-whole, reach-refused}
+use Rattle.request.proofs.Parts.{Begun, refusal, no-exploded, no-direction, odd-direction, no-count, no-trees, remain, read-whole}
+use Rattle.request.proofs.Walking.{walk-refused}
 use borrow.Author.Needs.{needs}
 use Rattle.request.proofs.reading.read_request.Statement.{statement}
 use Rattle.request.proofs.reading.read_request.Tie as tie
@@ -55,7 +56,7 @@ read-request-spec =
     (λ c.
     let t = c .before .before .before in
     let n = count-of t in
-    refusal _ _ _ (no-trees _ (begun (direction-of n)) (count-at n) (reach-refused _ (sym (ap walkSays (c .before .why4 .given .1)) ∙ t .read-trees .ensures .0))))
+    refusal _ _ _ (no-trees _ (begun (direction-of n)) (count-at n) (walk-refused _ (sym (ap walkSays (c .before .why4 .given .1)) ∙ t .read-trees .ensures .0))))
     (λ c.
     let t = c .before .before .before .before in
     let n = count-of t in
