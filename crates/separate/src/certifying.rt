@@ -110,7 +110,8 @@ fn order_rows(
     find_ranks(&keys, count, order, rank);
 }
 
-// True only where no two of the first `count` ids are equal; false says nothing.
+// True only where no two of the first `count` ids are equal. False says nothing: it is the answer for a count past the column
+// or past the work arrays too.
 pub fn ids_separate(id: &[u32], count: usize) -> bool
     ensures { λ t. ⌜ (t ≡ true → IdsSeparate (old id) count) ⌝ }
 {
@@ -129,7 +130,7 @@ pub fn ids_separate(id: &[u32], count: usize) -> bool
     false
 }
 
-// True only where no two of the first `count` ranges meet; false says nothing.
+// True only where no two of the first `count` ranges meet. False says nothing, as above.
 pub fn ranges_separate(start: &[u32], size: &[u32], count: usize) -> bool
     ensures { λ t. ⌜ (t ≡ true → RangesSeparate (old start) (old size) count) ⌝ }
 {
