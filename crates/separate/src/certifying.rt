@@ -96,7 +96,7 @@ fn ranges_in_order(start: &[u32], size: &[u32], order: &[u32; ROW_CAPACITY], cou
 }
 
 // The rows of a column in order and their ranks, whatever the sort gives.
-fn order_rows(
+fn rank_rows(
     column: &[u32],
     count: usize,
     order: &mut [u32; ROW_CAPACITY],
@@ -123,7 +123,7 @@ pub fn ids_separate(id: &[u32], count: usize) -> bool
     }
     let mut order = [0u32; ROW_CAPACITY];
     let mut rank = [0u32; ROW_CAPACITY];
-    order_rows(id, count, &mut order, &mut rank);
+    rank_rows(id, count, &mut order, &mut rank);
     if all_ranked(&order, &rank, count) {
         return ids_in_order(id, &order, count);
     }
@@ -145,7 +145,7 @@ pub fn ranges_separate(start: &[u32], size: &[u32], count: usize) -> bool
     }
     let mut order = [0u32; ROW_CAPACITY];
     let mut rank = [0u32; ROW_CAPACITY];
-    order_rows(start, count, &mut order, &mut rank);
+    rank_rows(start, count, &mut order, &mut rank);
     if all_ranked(&order, &rank, count) {
         return ranges_in_order(start, size, &order, count);
     }

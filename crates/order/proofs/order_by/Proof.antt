@@ -1,11 +1,11 @@
--- `order::compare` meets its contract.
+-- `order::order_by` meets its contract.
 use Rattle.order.specs.Order.{orderBy}
-use Rattle.order.proofs.compare.Statement.{statement}
-use Rattle.order.proofs.compare.Tie as tie
+use Rattle.order.proofs.order_by.Statement.{statement}
+use Rattle.order.proofs.order_by.Tie as tie
 
-pub compare-spec : {M : Type 1} → statement M
+pub order-by-spec : {M : Type 1} → statement M
 unfolding orderBy
-compare-spec =
+order-by-spec =
     tie.close
     (tie.spec
     (λ c. rw (c .if1 .taken))
