@@ -23,10 +23,7 @@ pub fn fresh(
     if lengths_bad(&*id, &*l, &*r, &*q) {
         return Counted::Refused(Refusal::Columns);
     }
-    if group == 0 {
-        return Counted::Refused(Refusal::RowValue);
-    }
-    if quota == 0 {
+    if (group == 0) | (quota == 0) {
         return Counted::Refused(Refusal::RowValue);
     }
     id[0] = group;

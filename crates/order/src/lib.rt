@@ -7,8 +7,7 @@ ghost use Rattle.rules.specs.Answers.{answer};
 ghost use Rattle.rules.specs.Lent.{old};
 ghost use Rattle.table.specs.Columns.{columns, rowAt};
 ghost use Rattle.table.specs.Lent.{oldColumns};
-ghost use Rattle.order.specs.Order.{orderBy, subgroup};
-ghost use Rattle.order.specs.Order.{compare as orderOf};
+ghost use Rattle.order.specs.Order.{compare, orderBy, subgroup};
 ghost use Rattle.order.specs.Order.{order as tableOrder};
 ghost use Rattle.order.specs.Says.{orderedSays};
 use boxes::LValue;
@@ -38,7 +37,7 @@ fn is_subgroup(gl: LValue, gr: RValue, hl: LValue, hr: RValue) -> bool
 }
 
 // What is said of two groups: the same, the first below the second as its subgroup, or the second below the first.
-fn compare(same_id: bool, first_below: bool, second_below: bool) -> Ordered
+fn order_by(same_id: bool, first_below: bool, second_below: bool) -> Ordered
     ensures { λ t. ⌜ orderedSays t ≡ answer (orderBy «same_id» «first_below» «second_below») ⌝ }
 {
     if same_id {
@@ -57,13 +56,13 @@ fn compare(same_id: bool, first_below: bool, second_below: bool) -> Ordered
 fn order_rows(id: &[u32], l: &[u32], r: &[u32], i: usize, j: usize) -> Ordered
     requires { ⌜ (i < length (now id)) × (i < length (now l)) × (i < length (now r)) ⌝ }
     requires { ⌜ (j < length (now id)) × (j < length (now l)) × (j < length (now r)) ⌝ }
-    ensures { λ t. let c = columns (old id) (old l) (old r) [] in ⌜ orderedSays t ≡ answer (orderOf (rowAt c i) (rowAt c j)) ⌝ }
+    ensures { λ t. let c = columns (old id) (old l) (old r) [] in ⌜ orderedSays t ≡ answer (compare (rowAt c i) (rowAt c j)) ⌝ }
 {
     let first_l = LValue(l[i] as u64);
     let first_r = RValue(r[i] as u64);
     let second_l = LValue(l[j] as u64);
     let second_r = RValue(r[j] as u64);
-    compare(
+    order_by(
         id[i] == id[j],
         is_subgroup(first_l, first_r, second_l, second_r),
         is_subgroup(second_l, second_r, first_l, first_r),

@@ -96,7 +96,7 @@ fn ranges_in_order(start: &[u32], size: &[u32], order: &[u32; ROW_CAPACITY], cou
 }
 
 // The rows of a column in order and their ranks, whatever the sort gives.
-fn order_rows(
+fn rank_rows(
     column: &[u32],
     count: usize,
     order: &mut [u32; ROW_CAPACITY],
@@ -110,7 +110,8 @@ fn order_rows(
     find_ranks(&keys, count, order, rank);
 }
 
-// True only where no two of the first `count` ids are equal; false says nothing.
+// True only where no two of the first `count` ids are equal. False says nothing: it is the answer for a count past the column
+// or past the work arrays too.
 pub fn ids_separate(id: &[u32], count: usize) -> bool
     ensures { λ t. ⌜ (t ≡ true → IdsSeparate (old id) count) ⌝ }
 {
@@ -122,14 +123,14 @@ pub fn ids_separate(id: &[u32], count: usize) -> bool
     }
     let mut order = [0u32; ROW_CAPACITY];
     let mut rank = [0u32; ROW_CAPACITY];
-    order_rows(id, count, &mut order, &mut rank);
+    rank_rows(id, count, &mut order, &mut rank);
     if all_ranked(&order, &rank, count) {
         return ids_in_order(id, &order, count);
     }
     false
 }
 
-// True only where no two of the first `count` ranges meet; false says nothing.
+// True only where no two of the first `count` ranges meet. False says nothing, as above.
 pub fn ranges_separate(start: &[u32], size: &[u32], count: usize) -> bool
     ensures { λ t. ⌜ (t ≡ true → RangesSeparate (old start) (old size) count) ⌝ }
 {
@@ -144,7 +145,7 @@ pub fn ranges_separate(start: &[u32], size: &[u32], count: usize) -> bool
     }
     let mut order = [0u32; ROW_CAPACITY];
     let mut rank = [0u32; ROW_CAPACITY];
-    order_rows(start, count, &mut order, &mut rank);
+    rank_rows(start, count, &mut order, &mut rank);
     if all_ranked(&order, &rank, count) {
         return ranges_in_order(start, size, &order, count);
     }

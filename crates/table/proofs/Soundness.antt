@@ -55,10 +55,9 @@ module _ (a q b p : ℕ) (some : 1 ≤ q) (other : 1 ≤ p) where
   -- ranges that are not have the greater of the two starts in both
   none-apart : ((n : ℕ) → In n a q → In n b p → ⊥) → apart a q b p ≡ true
   none-apart f =
-      clear-apart a q b p some other
-      (by-lt b (a + q)
-      (λ h. inr (by-lt a (b + p) (λ k. absurd (by-lt a b (λ m. f b (omega arith, omega arith) (omega arith, omega arith)) (λ m. f a (omega arith, omega arith) (omega arith, omega arith)))) (λ k. k)))
-      inl)
+      let both : b < a + q → a < b + p → ⊥ = λ h k.
+      by-lt a b (λ m. f b (omega arith, omega arith) (omega arith, omega arith)) (λ m. f a (omega arith, omega arith) (omega arith, omega arith)) in
+      clear-apart a q b p some other (by-lt b (a + q) (λ h. inr (by-lt a (b + p) (λ k. absurd (both h k)) (λ k. k))) inl)
 
 -- 11
 pub value-sound : (w : Row) → valueBad w ≡ false → SoundRow w

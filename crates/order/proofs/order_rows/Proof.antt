@@ -17,4 +17,4 @@ order-rows-spec =
     (λ c. search needs) (λ c. search needs)
     (λ c. let s : tie.Start = search in omega (arith, c .shared-slice-known7 .given (s .args .j)))
     (λ c. search needs) (λ c. search needs) (λ c. search needs) (λ c. search needs) (λ c κs. search needs) (λ c κs. search needs) (λ c κs. search needs)
-    (λ c. c .compare .ensures ∙ rw (c .before .before .is-subgroup .ensures, c .before .is-subgroup2 .ensures)))
+    (λ c. c .order-by .ensures ∙ rw (c .before .before .is-subgroup .ensures, c .before .is-subgroup2 .ensures)))
