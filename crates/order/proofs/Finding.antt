@@ -8,7 +8,7 @@ use Rattle.rules.specs.Answers.{answer, refused}
 use Rattle.table.specs.Columns.{Columns, rowAt, rowsFrom, rows}
 use Rattle.table.specs.Places.{placeOf}
 use Rattle.table.specs.inside.Places.{PlaceIn}
-use Rattle.table.proofs.Places.{NoneOf, place-in}
+use Rattle.table.proofs.Places.{NoneOf, place-at}
 use Rattle.order.specs.Order.{rowOf, orderIn, compare}
 use Rattle.order.specs.inside.Found.{FoundAt}
 
@@ -37,7 +37,7 @@ module _ (c : Columns) (n x : ℕ) where
 
   -- what the lookup of an id says of the rows
   pub found : {i : ℕ} → n ≤ length (c .id) → i ≡ placeOf (c .id) n x → FoundAt c n x i
-  found h e = found-at (rw e (place-in (c .id) n x h))
+  found h e = found-at (place-at h e)
 
 -- the rows of two groups are found, or one of them is missing
 module _ (c : Columns) (n a b i : ℕ) (f : FoundAt c n a i) where

@@ -56,3 +56,7 @@ place-in column n x h =
     (λ t. rw (place-there column n x (t .0) (t .1) (omega (arith, t .1)) (t .2) (t .3)) (record { most = omega (arith, t .1); there = λ _. t .2; before = t .3 }))
     (λ f. rw (place-none column n x (λ k i j. f k i)) (record { most = omega arith; there = λ i. absurd (omega arith); before = f }))
     (first-of column x n)
+
+-- the same of an answer of the lookup
+pub place-at : {column : List ℕ} {n x i : ℕ} → n ≤ length column → i ≡ placeOf column n x → PlaceIn column n x i
+place-at {column} {n} {x} h e = rw e (place-in column n x h)
