@@ -9,6 +9,7 @@ use number::Drawn;
 use number::number_at;
 use rules::Refusal;
 
+// A grant as it is read.
 pub struct Grant {
     pub feature: u32,
     // The group's numbers.
