@@ -43,10 +43,10 @@ module _ (feature l r day : ℕ) (bytes : List ℕ) where
       joined (answer gs) = rw y
       joined (refused n) = refl
 
-  pub outcome-passes : (at : ℕ) (t : Tally) {g : GrantRead} → at < length bytes → grantAt bytes at ≡ answer g → appliesTo feature l r (g .grant) ≡ false
+  pub outcome-other : (at : ℕ) (t : Tally) {g : GrantRead} → at < length bytes → grantAt bytes at ≡ answer g → appliesTo feature l r (g .grant) ≡ false
       → outcome at t ≡ outcome (g .next) t
   unfolding outcome windows counted
-  outcome-passes at t {g} h e y = rw (grants-unfold bytes at h, e) (joined (grantsAt bytes (g .next)))
+  outcome-other at t {g} h e y = rw (grants-unfold bytes at h, e) (joined (grantsAt bytes (g .next)))
     where
       joined : (rest : Answer (List Grant)) → then (inFront g rest) (endsAs t) ≡ then rest (endsAs t)
       joined (answer gs) = rw y

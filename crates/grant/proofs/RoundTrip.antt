@@ -1,7 +1,7 @@
 -- The laws of stored grants: the bytes of a list of grants read back as that list, or give 14 where one of them is bad.
 use mathlib.Core.Path.{_≡_, refl, ap, sym, _∙_}
 use mathlib.Core.Bool.{Bool, true, false, cond, _||_}
-use mathlib.Core.List.{List, [], _∷_, _++_, append-assoc, append-nil}
+use mathlib.Core.List.{List, [], _∷_, _++_, flatMap, append-assoc, append-nil}
 use Prim.Native.Nat.{ℕ, _+_, _≤_, _<_}
 use native.Mathlib.Omega.{arith}
 use lib.ListN.{length, length-append}
@@ -9,7 +9,8 @@ use Rattle.rules.specs.Answers.{Answer, answer, refused, then}
 use Rattle.rules.specs.Limits.{greatest}
 use Rattle.rules.proofs.Answers.{then-cond}
 use Rattle.number.specs.Number.{bytesOf}
-use Rattle.number.proofs.Laws.{number-back, number-count}
+use Rattle.number.proofs.Laws.{number-count}
+use Rattle.number.proofs.Runs.{run-back}
 use Rattle.grant.specs.Grant.{Grant, GrantRead, grantBad, checkedGrant, grantAt, grantsOf, grantBytes, grantsBytes, someBad, checkedGrants}
 use Rattle.grant.proofs.Listing.{inFront, grantsAt, grants-unfold, grants-done, grants-all}
 
@@ -25,29 +26,18 @@ abbrev pub AllFit : List Grant → Type 0
 AllFit [] = Unit {0}
 AllFit (g ∷ gs) = Fits g × AllFit gs
 
-length-grant : (g : Grant)
-    → length (grantBytes g) ≡ length (bytesOf (g .feature)) + (length (bytesOf (g .l)) + (length (bytesOf (g .r)) + (length (bytesOf (g .first)) + length (bytesOf (g .last)))))
-unfolding grantBytes
-length-grant g = simp length-append
+-- a grant's bytes are those of its five numbers
+grant-run : (g : Grant) → flatMap bytesOf (g .feature ∷ g .l ∷ g .r ∷ g .first ∷ g .last ∷ []) ≡ grantBytes g
+unfolding grantBytes flatMap
+grant-run g = simp append-nil
 
 -- one grant in the middle of longer bytes
 grant-back : (g : Grant) (before after : List ℕ) → Fits g
     → grantAt (before ++ (grantBytes g ++ after)) (length before) ≡ checkedGrant g (length before + length (grantBytes g))
-unfolding grantAt grantBytes
+unfolding grantAt
 grant-back g before after f =
-    let a = bytesOf (g .feature) in
-    let b = bytesOf (g .l) in
-    let d = bytesOf (g .r) in
-    let e = bytesOf (g .first) in
-    let h = bytesOf (g .last) in
-    let n = length-grant g in
-    let whole : before ++ ((a ++ (b ++ (d ++ (e ++ h)))) ++ after) ≡ before ++ (a ++ (b ++ (d ++ (e ++ (h ++ after))))) = simp append-assoc in
-    let ea = number-back (g .feature) before (b ++ (d ++ (e ++ (h ++ after)))) (f .in-feature) in
-    let eb = simp append-assoc at (simp length-append at (number-back (g .l) (before ++ a) (d ++ (e ++ (h ++ after))) (f .in-l))) in
-    let ed = simp append-assoc at (simp length-append at (number-back (g .r) ((before ++ a) ++ b) (e ++ (h ++ after)) (f .in-r))) in
-    let ee = simp append-assoc at (simp length-append at (number-back (g .first) (((before ++ a) ++ b) ++ d) (h ++ after) (f .in-first))) in
-    let eh = simp append-assoc at (simp length-append at (number-back (g .last) ((((before ++ a) ++ b) ++ d) ++ e) after (f .in-last))) in
-    rw (whole, ea, eb, ed, ee, eh) (ap (checkedGrant g) (omega arith))
+    let a = rw grant-run at (run-back (g .feature ∷ g .l ∷ g .r ∷ g .first ∷ g .last ∷ []) before after (f .in-feature, (f .in-l, (f .in-r, (f .in-first, (f .in-last, tt)))))) in
+    rw (a .1, a .2 .1, a .2 .2 .1, a .2 .2 .2 .1, a .2 .2 .2 .2 .1, a .2 .2 .2 .2 .2)
 
 -- a bad grant, or a good one and then others
 front-checked : (g : Grant) (gs : List Grant) (next : ℕ) (rest : ℕ → Answer (List Grant)) → rest next ≡ checkedGrants gs
@@ -60,14 +50,18 @@ front-checked g gs next rest e = go (grantBad g)
     go true = refl
     go false = ap (λ (a : Answer (List Grant)). then a (λ (t : List Grant). answer (g ∷ t))) e ∙ then-cond (someBad gs) 14 gs _
 
+-- a grant has a byte at least
+grant-some : (g : Grant) → 0 < length (grantBytes g)
+unfolding grantBytes
+grant-some g = simp length-append (omega (arith, number-count (g .feature)))
+
 from-back : (gs : List Grant) (before : List ℕ) → AllFit gs → grantsAt (before ++ grantsBytes gs) (length before) ≡ checkedGrants gs
 unfolding grantsBytes checkedGrants someBad
 from-back [] before f = grants-done (before ++ []) (length before) (simp append-nil (omega arith))
 from-back (g ∷ gs) before f =
     let one = grantBytes g in
     let rest = grantsBytes gs in
-    let n = length-grant g in
-    let some = number-count (g .feature) in
+    let some : 0 < length one = grant-some g in
     let inside : length before < length (before ++ (one ++ rest)) = simp length-append (omega arith) in
     let others = simp (append-assoc, length-append) at (from-back gs (before ++ one) (f .1)) in
     grants-unfold (before ++ (one ++ rest)) (length before) inside

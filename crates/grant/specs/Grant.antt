@@ -6,11 +6,13 @@ use lib.Dec.{eqb, leb, ltb}
 use lib.ListN.{length}
 use Rattle.rules.specs.Answers.{Answer, answer, refused, then}
 use Rattle.number.specs.Number.{numberAt, bytesOf}
-use Rattle.grant.specs.declared.Grant as code
 
--- the struct of src/lib.rt
-abbrev pub Grant : Type 0
-Grant = code.Grant
+pub record Grant : Type 0 where
+  pub feature : ℕ
+  pub l : ℕ
+  pub r : ℕ
+  pub first : ℕ
+  pub last : ℕ
 
 abbrev pub grant : (feature l r first last : ℕ) → Grant
 grant feature l r first last = record { feature = feature; l = l; r = r; first = first; last = last }

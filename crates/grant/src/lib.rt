@@ -1,18 +1,21 @@
 // Grants and how they are read (document 01, "Grants and decisions").
 ghost use mathlib.Core.Path.{_≡_};
-ghost use Rattle.grant.specs.Grant.{grantBad, checkedGrant, grantAt};
+ghost use Rattle.grant.specs.Grant.{grant, grantBad, checkedGrant, grantAt};
 ghost use Rattle.grant.specs.Says.{grantSays};
 ghost use Rattle.rules.specs.Lent.{old};
+use boxes::LValue;
+use boxes::RValue;
 use number::Drawn;
 use number::number_at;
 use rules::Refusal;
 
+// A grant as it is read.
 pub struct Grant {
     pub feature: u32,
-    // Where the grant stands: a group's l and r.
-    pub l: u32,
-    pub r: u32,
-    // The first day, and the last; 0 for none, as it is open.
+    // The group's numbers.
+    pub l: LValue,
+    pub r: RValue,
+    // The first day, and the last; last day 0 means open.
     pub first: u32,
     pub last: u32,
 }
@@ -25,25 +28,32 @@ pub enum GrantDrawn {
 }
 
 // 14: feature, l, r or first is 0, or last is not 0 and below first.
-fn grant_bad(g: Grant) -> bool
-    ensures { λ t. ⌜ t ≡ grantBad g ⌝ }
+fn grant_bad(feature: u32, l: u32, r: u32, first: u32, last: u32) -> bool
+    ensures { λ t. ⌜ t ≡ grantBad (grant feature l r first last) ⌝ }
 {
-    if (g.feature == 0) | ((g.l == 0) | ((g.r == 0) | (g.first == 0))) {
+    if (feature == 0) | ((l == 0) | ((r == 0) | (first == 0))) {
         return true;
     }
-    if g.last == 0 {
+    if last == 0 {
         return false;
     }
-    g.last < g.first
+    last < first
 }
 
 // A grant whose five numbers are read: 14.
-fn checked_grant(g: Grant, next: usize) -> GrantDrawn
-    ensures { λ t. ⌜ grantSays t ≡ checkedGrant g next ⌝ }
+fn checked_grant(feature: u32, l: u32, r: u32, first: u32, last: u32, next: usize) -> GrantDrawn
+    ensures { λ t. ⌜ grantSays t ≡ checkedGrant (grant feature l r first last) next ⌝ }
 {
-    if grant_bad(g) {
+    if grant_bad(feature, l, r, first, last) {
         return GrantDrawn::Refused(Refusal::Grant);
     }
+    let g = Grant {
+        feature,
+        l: LValue(l as u64),
+        r: RValue(r as u64),
+        first,
+        last,
+    };
     GrantDrawn::Grant(g, next)
 }
 
@@ -62,16 +72,7 @@ pub fn grant_at(bytes: &[u8], at: usize) -> GrantDrawn
                     Drawn::Number(first, last_at) => match number_at(bytes, last_at) {
                         Drawn::Refused(why) => GrantDrawn::Refused(why),
                         Drawn::Number(last, next) => {
-                            checked_grant(
-                                Grant {
-                                    feature,
-                                    l,
-                                    r,
-                                    first,
-                                    last,
-                                },
-                                next,
-                            )
+                            checked_grant(feature, l, r, first, last, next)
                         }
                     },
                 },

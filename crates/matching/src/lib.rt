@@ -2,6 +2,7 @@
 ghost use mathlib.Core.Path.{_≡_};
 ghost use mathlib.Core.Bool.{_&&_};
 ghost use lib.Dec.{leb};
+ghost use Rattle.grant.specs.Says.{grantOf};
 ghost use Rattle.matching.specs.Matching.{appliesTo};
 use boxes::LValue;
 use boxes::RValue;
@@ -16,7 +17,7 @@ pub fn covered(l: LValue, r: RValue, gl: LValue, gr: RValue) -> bool
 
 // A grant applies to a pass (l, r) and a feature.
 pub fn applies(feature: u32, l: LValue, r: RValue, g: Grant) -> bool
-    ensures { λ t. ⌜ t ≡ appliesTo feature (l .0) (r .0) g ⌝ }
+    ensures { λ t. ⌜ t ≡ appliesTo feature (l .0) (r .0) (grantOf g) ⌝ }
 {
-    (g.feature == feature) & covered(l, r, LValue(g.l as u64), RValue(g.r as u64))
+    (g.feature == feature) & covered(l, r, g.l, g.r)
 }

@@ -7,7 +7,7 @@ use borrow.Author.Needs.{needs}
 use Rattle.grant.specs.Says.{grantSays}
 use Rattle.grant.proofs.Listing.{grant-stands}
 use Rattle.decide.specs.Decision.{decided}
-use Rattle.decide.proofs.Outcome.{outcome, outcome-ends, outcome-refused, outcome-applies, outcome-passes, outcome-decided}
+use Rattle.decide.proofs.Outcome.{outcome, outcome-ends, outcome-refused, outcome-applies, outcome-other, outcome-decided}
 use Rattle.decide.proofs.decide.Statement.{statement}
 use Rattle.decide.proofs.decide.Tie as tie
 
@@ -58,6 +58,6 @@ decide-spec =
     let i = a .before .before .loop in
     let e = sym (a .grant-at .ensures) ∙ ap grantSays (g .g .given .1) in
     let n = sym (c .before .applies .ensures) ∙ c .if2 .left in
-    (grant-stands _ _ e .ends, sym (outcome-passes _ _ _ _ _ (i .at) (i .t) (a .before .loop-test .taken) e n) ∙ i .inv .1))
+    (grant-stands _ _ e .ends, sym (outcome-other _ _ _ _ _ (i .at) (i .t) (a .before .loop-test .taken) e n) ∙ i .inv .1))
     (λ c κs. search needs)
     (λ c. let i = c .before .before .loop in c .decision-of .ensures ∙ sym (outcome-ends _ _ _ _ _ (i .at) (i .t) (c .before .loop-test .left)) ∙ i .inv .1))

@@ -9,5 +9,5 @@ unfolding appliesTo
 applies-spec =
     tie.close
     (tie.spec
-    (λ c. search needs) (λ c. search needs) (λ c κs. search needs)
+    (λ c κs. search needs)
     (λ c. rw (c .covered .ensures)))

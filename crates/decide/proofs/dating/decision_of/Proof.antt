@@ -12,5 +12,13 @@ decision-of-spec =
     (λ c. rw (c .if1 .taken))
     (λ c. let a : tie.Else1 = search in rw (a .if1 .left, lt-ltb _ _ (c .if2 .taken)))
     (λ c. let b : tie.Else2 = search in let a : tie.Else1 = search in rw (a .if1 .left, le-ltb _ _ (b .if2 .left), lt-ltb _ _ (c .if3 .taken)))
-    (λ c. let d : tie.Else3 = search in let b : tie.Else2 = search in let a : tie.Else1 = search in rw (a .if1 .left, le-ltb _ _ (b .if2 .left), le-ltb _ _ (d .if3 .left), lt-ltb _ _ (c .if4 .taken)))
-    (λ c. let d : tie.Else3 = search in let b : tie.Else2 = search in let a : tie.Else1 = search in rw (a .if1 .left, le-ltb _ _ (b .if2 .left), le-ltb _ _ (d .if3 .left), le-ltb _ _ (c .if4 .left))))
+    (λ c.
+    let d : tie.Else3 = search in
+    let b : tie.Else2 = search in
+    let a : tie.Else1 = search in
+    rw (a .if1 .left, le-ltb _ _ (b .if2 .left), le-ltb _ _ (d .if3 .left), lt-ltb _ _ (c .if4 .taken)))
+    (λ c.
+    let d : tie.Else3 = search in
+    let b : tie.Else2 = search in
+    let a : tie.Else1 = search in
+    rw (a .if1 .left, le-ltb _ _ (b .if2 .left), le-ltb _ _ (d .if3 .left), le-ltb _ _ (c .if4 .left))))
