@@ -18,9 +18,9 @@ use codes::decision_code;
 use codes::order_code;
 use codes::written_code;
 use grant::decide;
+use load::read;
 use refine::refine;
-use stored::read;
-use stored::store;
+use store::store;
 use table::fresh;
 use table::order;
 
