@@ -12,7 +12,7 @@ pub fn read(bytes: &[u8]) {
     let mut q = [7; 3];
     show::bytes_after(b"read table", bytes);
     show::colon();
-    let count = show::counted(stored::read(&mut id, &mut l, &mut r, &mut q, bytes), 0);
+    let count = show::counted(load::read(&mut id, &mut l, &mut r, &mut q, bytes), 0);
     show::columns_after(b",", &id, &l, &r, &q);
     show::end();
     if 0 < count {
@@ -27,7 +27,7 @@ fn lengths_differ() {
     let mut r = [7; 2];
     let mut q = [7; 3];
     show::text(b"read table: ");
-    show::counted(stored::read(&mut id, &mut l, &mut r, &mut q, b""), 0);
+    show::counted(load::read(&mut id, &mut l, &mut r, &mut q, b""), 0);
     show::columns_after(b",", &id, &l, &r, &q);
     show::end();
 }

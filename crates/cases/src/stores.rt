@@ -15,7 +15,7 @@ pub fn store(id: &[u32], l: &[u32], r: &[u32], q: &[u32], count: usize, room: us
     show::count_after(b" in ", room);
     show::colon();
     if room <= 16 {
-        show::written(stored::store(id, l, r, q, count, &mut buffer[0..room]));
+        show::written(store::store(id, l, r, q, count, &mut buffer[0..room]));
     }
     buffer_after(&buffer);
 }

@@ -21,7 +21,7 @@ use Rattle.table.proofs.Rows.{rows-length}
 use Rattle.refine.specs.Refine.{refined}
 use Rattle.refine.proofs.Fitting.{refined-most}
 use Rattle.stored.specs.Stored.{rowsAt, rowsToEnd, readRows, rowsBytes, tableBytes, storeAnswer}
-use Rattle.stored.proofs.Writing.{rows-most}
+use Rattle.stored.proofs.Bytes.{rows-most}
 use Rattle.stored.proofs.Laws.{rows-count}
 use Rattle.zintukor.specs.inside.Small.{Small}
 

@@ -19,10 +19,10 @@ use counts::counted_code;
 use counts::written_code;
 use decide::decide;
 use fresh::fresh;
+use load::read;
 use order::order;
 use refine::refine;
-use stored::read;
-use stored::store;
+use store::store;
 
 // A fresh table: row 0 is the group at (1, 1) with the quota.
 #[no_mangle]
