@@ -61,14 +61,21 @@ module _ (log : List ℕ) (at : ℕ) where
   stop (suc k) h = rw (le-leb _ _ h)
 
   -- a length is bad
-  pub bad : (k : ℕ) {n : ℕ} → length log ≤ at + k → at < length log → partAt log at ≡ refused n → requestsFrom k log at ≡ noMore (refused n)
+  pub no-more : (k : ℕ) {n : ℕ} → at < length log → partAt log at ≡ refused n → requestsFrom (suc k) log at ≡ noMore (refused n)
   unfolding requestsFrom partThen
+  no-more k h e = rw (lt-leb _ _ h, e)
+
+  pub bad : (k : ℕ) {n : ℕ} → length log ≤ at + k → at < length log → partAt log at ≡ refused n → requestsFrom k log at ≡ noMore (refused n)
   bad zero l h e = absurd (omega arith)
-  bad (suc k) l h e = rw (lt-leb _ _ h, e)
+  bad (suc k) l h e = no-more k h e
 
   -- a request, and then others
+  pub one-more : (k : ℕ) {p : Part} → at < length log → partAt log at ≡ answer p → requestsFrom (suc k) log at ≡ oneMore (bytesIn log p) (requestsFrom k log (p .end))
+  unfolding requestsFrom partThen
+  one-more k h e = rw (lt-leb _ _ h, e)
+
+  -- the same where the count of requests is enough for the log
   pub goes-on : (k : ℕ) {p : Part} → length log ≤ at + k → at < length log → partAt log at ≡ answer p
       → (j : ℕ) × (requestsFrom k log at ≡ oneMore (bytesIn log p) (requestsFrom j log (p .end))) × (length log ≤ p .end + j)
-  unfolding requestsFrom partThen
   goes-on zero l h e = absurd (omega arith)
-  goes-on (suc k) {p} l h e = (k, rw (lt-leb _ _ h, e), omega (arith, part-in p e))
+  goes-on (suc k) {p} l h e = (k, one-more k h e, omega (arith, part-in p e))
