@@ -13,7 +13,7 @@ pub fn grow(log: &[u8]) {
     let mut text = [0u8; 20000];
     show::bytes_after(b"grow", log);
     show::text(b":\n");
-    match growth::grow(log, &mut id, &mut l, &mut r, &mut q, &mut text) {
+    match replay::grow(log, &mut id, &mut l, &mut r, &mut q, &mut text) {
         Written::Bytes(n) => {
             if n <= 20000 {
                 show::text(&text[0..n]);
@@ -45,7 +45,7 @@ fn room(n: usize) {
     show::count_after(b"grow in ", n);
     show::colon();
     if n <= 16412 {
-        show::written(growth::grow(
+        show::written(replay::grow(
             b"\x01\x02",
             &mut id,
             &mut l,

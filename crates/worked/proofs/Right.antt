@@ -1,6 +1,6 @@
 -- Every case of the table is right: one computation over the whole of it.
 use mathlib.Core.Path.{_≡_, refl}
-use mathlib.Core.List.{map}
+use mathlib.Core.List.{map, flatMap}
 use Rattle.number.specs.Number.{numberAt, bitGroupsAt, lastByte, followed, addedTo, bytesOf, bitGroupsOf}
 use Rattle.boxes.specs.Boxes.{apart}
 use Rattle.table.specs.Columns.{rowsFrom, put}
@@ -18,8 +18,10 @@ use Rattle.decide.specs.Decision.{questionBad, decided}
 use Rattle.ledger.specs.Ledger.{freshLedger, acceptedBy, isOther, staysBelow, belowEntries, aboveEntries, itself, byTrees, orderAfter, replace, explodedLedger, ledgerRefined, ledgerOrder}
 use Rattle.ledger.specs.Calls.{engineReply, engineAfter, engineReplies, engineEnd, engineStart, ledgerReply, ledgerAfter, ledgerReplies, ledgerEnd}
 use Rattle.text.specs.Decimal.{digits, decimal}
-use Rattle.growth.specs.Lines.{fieldText, lineText, headingText, rowText, rowsText, tableText}
-use Rattle.growth.specs.Growth.{partAt, partThen, requestThen, requestsFrom, begun, listed, growthFrom, growth}
+use Rattle.log.specs.Log.{pairOf, partAt, partThen, requestsFrom, requestsAt}
+use Rattle.lines.specs.Lines.{fieldText, lineText, headingText, rowText, tableText}
+use Rattle.replay.specs.Run.{answersTo, tableEnd}
+use Rattle.replay.specs.Replay.{endText, replayFrom, replayOf, textOf}
 use Rattle.worked.specs.Cases.{computed, stated}
 use Rattle.worked.specs.Table.{cases, besideRequest, uprightRequest, invertedRequest, first9, second9, third9, fourth9, log9, lines9, rows9, calls9, replies9}
 
@@ -30,5 +32,6 @@ unfolding cases besideRequest uprightRequest invertedRequest first9 second9 thir
     yetToBegin those someOpen greatestLast leastFirst tried dated questionBad decided positiveAt entryAt treesBy treeBy notFull treesAt directionOf requestOf someEntry
     accepted refineRows explodedRows refined engineReply engineAfter engineReplies engineEnd engineStart freshLedger acceptedBy isOther staysBelow
     belowEntries aboveEntries itself byTrees orderAfter replace explodedLedger ledgerRefined ledgerOrder ledgerReply ledgerAfter ledgerReplies ledgerEnd
-    digits decimal fieldText lineText headingText rowText rowsText tableText partAt partThen requestThen requestsFrom begun listed growthFrom growth
+    digits decimal fieldText lineText headingText rowText tableText flatMap pairOf partAt partThen requestsFrom requestsAt answersTo
+    tableEnd endText replayFrom replayOf textOf
 cases-right = refl

@@ -3,7 +3,7 @@ use Prim.Native.Nat.{ℕ}
 use Prim.Native.String.{String}
 use mathlib.Core.List.{List, [], _∷_, _++_, map}
 use lib.ListN.{length, replicate}
-use Rattle.rules.specs.Answers.{Answer, answer}
+use Rattle.rules.specs.Answers.{Answer, answer, refused}
 use Rattle.rules.specs.Limits.{mostRows}
 use Rattle.number.specs.Number.{Number, found, numberAt, bytesOf}
 use Rattle.request.specs.Entries.{quotaOf}
@@ -15,7 +15,7 @@ use Rattle.decide.specs.Decision.{decided}
 use Rattle.ledger.specs.Ledger.{Ledger, freshLedger, afreshL, afreshR}
 use Rattle.ledger.specs.Calls.{Call, Reply, engineStart, engineReplies, engineEnd, ledgerReplies, ledgerEnd}
 use Rattle.table.specs.Columns.{Table, rowsIn}
-use Rattle.growth.specs.Growth.{Growth, growth}
+use Rattle.replay.specs.Replay.{Replay, replayOf, growText}
 use Rattle.worked.specs.Lines.{lines}
 
 pub data Case : Type 0 where
@@ -66,8 +66,10 @@ engine id quota = engineStart blank id quota
 abbrev pub ledger : (id quota : ℕ) → Ledger
 ledger id quota = freshLedger mostRows id quota
 
-abbrev pub growthRows : Growth → List Row
-growthRows g = rows (g .table) (g .count)
+-- the rows after a log
+abbrev pub rowsAfter : Answer Replay → List Row
+rowsAfter (answer r) = rows (r .table .columns) (r .table .count)
+rowsAfter (refused n) = []
 
 abbrev pub computed : Case → Outcome
 computed (stored value bytes) = codec (bytesOf value) (numberAt bytes 0)
@@ -77,7 +79,7 @@ computed (grown id quota calls said after) =
     (rowsIn (engineEnd (engine id quota) calls))
     (ledgerReplies (ledger id quota) calls)
     (afresh (ledgerEnd (ledger id quota) calls) after)
-computed (logged numbers text after) = printed (growth blank (stream numbers) .text) (growthRows (growth blank (stream numbers)))
+computed (logged numbers text after) = printed (growText blank (stream numbers)) (rowsAfter (replayOf blank (stream numbers)))
 computed (asked feature l r day gs said) = decision (decided feature l r day (grantsBytes gs))
 
 abbrev pub stated : Case → Outcome
