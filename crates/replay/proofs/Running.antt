@@ -24,7 +24,8 @@ use Rattle.refine.proofs.Refinement.{promises}
 use Rattle.log.specs.Log.{Requests, noMore, oneMore}
 use Rattle.lines.specs.Lines.{lineText, tableText, columnsBad}
 use Rattle.lines.proofs.Laws.{columns-good, line-most}
-use Rattle.replay.specs.Run.{Table, rowsIn, answerTo, tableAfter, answersTo, tableEnd}
+use Rattle.table.specs.Columns.{Table, rowsIn}
+use Rattle.replay.specs.Run.{answerTo, tableAfter, answersTo, tableEnd}
 use Rattle.replay.specs.Replay.{Replay, endText, replayFrom, growRoom, lineRoom, tableRoom}
 use Rattle.replay.specs.inside.Carrying.{Countable}
 

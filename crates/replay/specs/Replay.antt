@@ -10,7 +10,8 @@ use Rattle.table.specs.Columns.{Columns, put}
 use Rattle.fresh.specs.Fresh.{freshRows}
 use Rattle.log.specs.Log.{pairOf, Requests, requestsAt}
 use Rattle.lines.specs.Lines.{lineText, tableText}
-use Rattle.replay.specs.Run.{Table, rowsIn, answersTo, tableEnd}
+use Rattle.table.specs.Columns.{Table, rowsIn}
+use Rattle.replay.specs.Run.{answersTo, tableEnd}
 
 pub record Replay : Type 0 where
   pub table : Table

@@ -2,16 +2,8 @@
 use Prim.Native.Nat.{ℕ}
 use mathlib.Core.List.{List, [], _∷_}
 use Rattle.rules.specs.Answers.{Answer, orElse}
-use Rattle.table.specs.Columns.{Row, Columns, rows, counted, afterwards}
+use Rattle.table.specs.Columns.{Table, counted, afterwards}
 use Rattle.refine.specs.Refine.{refined}
-
--- columns, and the count of the rows in use
-pub record Table : Type 0 where
-  pub columns : Columns
-  pub count : ℕ
-
-abbrev pub rowsIn : Table → List Row
-rowsIn t = rows (t .columns) (t .count)
 
 -- the answer to a request: the new count, or the refusal
 abbrev pub answerTo : Table → List ℕ → Answer ℕ
