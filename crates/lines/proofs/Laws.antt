@@ -17,7 +17,8 @@ use Rattle.text.specs.Decimal.{decimal}
 use Rattle.text.proofs.Laws.{decimal-count}
 use Rattle.table.specs.Columns.{Row, Columns, rowAt, rowsFrom, rows}
 use Rattle.table.specs.Check.{lengthsBad}
-use Rattle.table.proofs.Lengths.{Lengths, lengths-good, count-good}
+use Rattle.table.specs.Sound.{Lengths}
+use Rattle.table.proofs.Lengths.{lengths-good, count-good}
 use Rattle.table.proofs.Rows.{rows-more, rows-length}
 use Rattle.lines.specs.Lines.{fieldText, lineText, headingText, rowText, rowsText, tableText, columnsBad, tableAnswer, tableBuffer}
 

@@ -10,7 +10,8 @@ use denote.Ref.{now}
 use Rattle.rules.specs.Answers.{answer}
 use Rattle.rules.specs.Buffers.{after}
 use Rattle.table.specs.Columns.{Columns, columns}
-use Rattle.table.proofs.Lengths.{Lengths, holds-count}
+use Rattle.table.specs.Sound.{Lengths}
+use Rattle.table.proofs.Lengths.{holds-count}
 use Rattle.lines.specs.Lines.{columnsBad}
 use Rattle.lines.proofs.Laws.{whole, whole-most, heading-is, columns-good, table-bad, table-short, table-written}
 use borrow.Author.Needs.{needs}
