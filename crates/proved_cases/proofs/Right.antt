@@ -22,8 +22,8 @@ use Rattle.log.specs.Log.{pairOf, partAt, partThen, requestsFrom, requestsAt}
 use Rattle.lines.specs.Lines.{fieldText, lineText, headingText, rowText, tableText}
 use Rattle.replay.specs.Run.{answersTo, tableEnd}
 use Rattle.replay.specs.Replay.{endText, replayFrom, replayOf, textOf}
-use Rattle.worked.specs.Cases.{computed, stated}
-use Rattle.worked.specs.Table.{cases, besideRequest, uprightRequest, invertedRequest, first9, second9, third9, fourth9, log9, lines9, rows9, calls9, replies9}
+use Rattle.proved_cases.specs.Cases.{computed, stated}
+use Rattle.proved_cases.specs.Table.{cases, besideRequest, uprightRequest, invertedRequest, first9, second9, third9, fourth9, log9, lines9, rows9, calls9, replies9}
 
 pub cases-right : map computed cases ≡ map stated cases
 unfolding cases besideRequest uprightRequest invertedRequest first9 second9 third9 fourth9 log9 lines9 rows9 calls9 replies9 numberAt bitGroupsAt lastByte

@@ -8,7 +8,7 @@ use Rattle.order.specs.Order.{Order, same, first, second, incomparable}
 use Rattle.grant.specs.Grant.{grant}
 use Rattle.decide.specs.Dating.{onOpen, onUntil, ended, ahead, never}
 use Rattle.ledger.specs.Calls.{Call, refine, order, Reply, refineSays, orderSays}
-use Rattle.worked.specs.Cases.{Case, stored, made, grown, logged, asked, row, stream}
+use Rattle.proved_cases.specs.Cases.{Case, stored, made, grown, logged, asked, row, stream}
 
 -- a request by its numbers
 abbrev pub request : List ℕ → Call

@@ -16,7 +16,7 @@ use Rattle.ledger.specs.Ledger.{Ledger, freshLedger, afreshL, afreshR}
 use Rattle.ledger.specs.Calls.{Call, Reply, engineStart, engineReplies, engineEnd, ledgerReplies, ledgerEnd}
 use Rattle.table.specs.Columns.{Table, rowsIn}
 use Rattle.replay.specs.Replay.{Replay, replayOf, growText}
-use Rattle.worked.specs.Lines.{lines}
+use Rattle.proved_cases.specs.Lines.{lines}
 
 pub data Case : Type 0 where
   -- a number and its stored bytes

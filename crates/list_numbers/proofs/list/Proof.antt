@@ -1,4 +1,4 @@
--- `numbers::list` is safe and ends: each number ends after the position where it starts.
+-- `list_numbers::list` is safe and ends: each number ends after the position where it starts.
 use mathlib.Core.Path.{ap, sym, _∙_}
 use Prim.Native.Nat.{_-_, _≤_}
 use native.Mathlib.Omega.{arith}
@@ -6,8 +6,8 @@ use lib.ListN.{length}
 use borrow.Author.Needs.{needs}
 use Rattle.number.specs.Says.{drawnSays}
 use Rattle.number.proofs.Laws.{number-ends}
-use Rattle.numbers.proofs.list.Statement.{statement}
-use Rattle.numbers.proofs.list.Tie as tie
+use Rattle.list_numbers.proofs.list.Statement.{statement}
+use Rattle.list_numbers.proofs.list.Tie as tie
 
 abbrev Inv-loop : tie.InvT-loop
 Inv-loop bytes at₀ at = at ≤ length bytes
