@@ -10,7 +10,7 @@ use Rattle.table.specs.Columns.{Row}
 use Rattle.table.specs.Check.{lengthsBad, soundRows}
 use Rattle.refine.specs.Refine.{groupsOf}
 use Rattle.table.specs.Columns.{lOf, rOf}
-use Rattle.refine.specs.Theorems.{subgroupIn}
+use Rattle.promises.specs.Theorems.{subgroupIn}
 use Rattle.ledger.specs.Ledger.{Ledger, afreshL, afreshR}
 use Rattle.table.specs.Columns.{Table, rowsIn}
 

@@ -21,9 +21,9 @@ use Rattle.table.proofs.Rows.{rows-length, rows-put}
 use Rattle.table.proofs.Lengths.{good-count, put-length, put-lengths}
 use Rattle.refine.specs.Refine.{groupsOf, refineRows, explodedRows, refined}
 use Rattle.table.specs.Columns.{lOf, rOf}
-use Rattle.refine.proofs.After.{groups-length}
-use Rattle.refine.proofs.Cutting.{Refining}
-use Rattle.refine.proofs.Refinement.{refining, promised}
+use Rattle.refine.proofs.Lookup.{groups-length}
+use Rattle.promises.proofs.Cutting.{Refining}
+use Rattle.promises.proofs.Refinement.{refining, promised}
 use Rattle.ledger.specs.Ledger.{Ledger, acceptedBy, explodedLedger, ledgerRefined, ledgerOrder}
 use Rattle.ledger.specs.Calls.{Call, refine, order, refineSays, orderSays, ledgerReply, ledgerAfter, explodes, engineReply, engineAfter}
 use Rattle.table.specs.Columns.{Table, rowsIn}

@@ -14,9 +14,9 @@ use Rattle.order.specs.Order.{subgroup}
 use Rattle.table.proofs.Rows.{rows-length}
 use Rattle.refine.specs.Refine.{groupsOf}
 use Rattle.table.specs.Columns.{lOf, rOf}
-use Rattle.refine.proofs.After.{groups-length}
+use Rattle.refine.proofs.Lookup.{groups-length}
 use Rattle.refine.proofs.Lookup.{l-row, r-row}
-use Rattle.refine.proofs.Soundness.{sound-ids}
+use Rattle.promises.proofs.Soundness.{sound-ids}
 use Rattle.grant.specs.Grant.{Grant}
 use Rattle.ledger.specs.Ledger.{Ledger}
 use Rattle.ledger.specs.Calls.{Call, ledgerAfter, ledgerReplies, ledgerEnd, explodes, explodedIn, engineAfter, engineReplies, engineEnd, engineStart}

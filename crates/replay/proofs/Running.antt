@@ -20,7 +20,7 @@ use Rattle.table.specs.Check.{lengthsBad, countBad}
 use Rattle.table.proofs.Lengths.{count-good, good-count, put-length, put-lengths}
 use Rattle.table.proofs.Rows.{rows-length}
 use Rattle.refine.specs.Refine.{refined}
-use Rattle.refine.proofs.Refinement.{promises}
+use Rattle.promises.proofs.Refinement.{promises}
 use Rattle.log.specs.Log.{Requests, noMore, oneMore}
 use Rattle.lines.specs.Lines.{lineText, tableText, columnsBad}
 use Rattle.lines.proofs.Laws.{columns-good, line-most}
