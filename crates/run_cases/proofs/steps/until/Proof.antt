@@ -1,11 +1,11 @@
--- `run_cases::lines::until` is safe and ends.
+-- `run_cases::steps::until` is safe and ends.
 use mathlib.Core.Path.{_≡_}
 use Prim.Native.Nat.{_-_}
 use native.Mathlib.Omega.{arith}
 use lib.ListN.{length, length-set}
 use borrow.Author.Needs.{needs}
-use Rattle.run_cases.proofs.lines.until.Statement.{statement}
-use Rattle.run_cases.proofs.lines.until.Tie as tie
+use Rattle.run_cases.proofs.steps.until.Statement.{statement}
+use Rattle.run_cases.proofs.steps.until.Tie as tie
 
 abbrev Inv-loop : tie.InvT-loop
 Inv-loop buffer₀ from bytes end n₀ at₀ buffer n at = length buffer ≡ length buffer₀

@@ -1,9 +1,9 @@
--- `run_cases::lines::each` is safe and ends.
+-- `run_cases::steps::each` is safe and ends.
 use Prim.Native.Nat.{_-_, _≤_}
 use lib.ListN.{length}
 use borrow.Author.Needs.{needs}
-use Rattle.run_cases.proofs.lines.each.Statement.{statement}
-use Rattle.run_cases.proofs.lines.each.Tie as tie
+use Rattle.run_cases.proofs.steps.each.Statement.{statement}
+use Rattle.run_cases.proofs.steps.each.Tie as tie
 
 abbrev Inv-loop : tie.InvT-loop
 Inv-loop text start₀ i₀ start i = (start ≤ i) × (i ≤ length text)

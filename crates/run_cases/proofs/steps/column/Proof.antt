@@ -1,11 +1,11 @@
--- `run_cases::lines::column` is safe and ends.
+-- `run_cases::steps::column` is safe and ends.
 use mathlib.Core.Path.{_≡_}
 use Prim.Native.Nat.{_≤_}
 use native.Mathlib.Omega.{arith}
 use lib.ListN.{length, length-set}
 use borrow.Author.Needs.{needs}
-use Rattle.run_cases.proofs.lines.column.Statement.{statement}
-use Rattle.run_cases.proofs.lines.column.Tie as tie
+use Rattle.run_cases.proofs.steps.column.Statement.{statement}
+use Rattle.run_cases.proofs.steps.column.Tie as tie
 
 abbrev Inv-loop : tie.InvT-loop
 Inv-loop line name s₀ n₀ item₀ turns₀ s n item turns = (length s ≡ 258) × (n ≤ 257)

@@ -1,9 +1,9 @@
--- `run_cases::lines::bytes` is safe and ends.
+-- `run_cases::steps::bytes` is safe and ends.
 use mathlib.Core.Path.{_≡_}
 use lib.ListN.{length}
 use borrow.Author.Needs.{needs}
-use Rattle.run_cases.proofs.lines.bytes.Statement.{statement}
-use Rattle.run_cases.proofs.lines.bytes.Tie as tie
+use Rattle.run_cases.proofs.steps.bytes.Statement.{statement}
+use Rattle.run_cases.proofs.steps.bytes.Tie as tie
 
 abbrev Inv-loop : tie.InvT-loop
 Inv-loop line buffer₀ n₀ from₀ item₀ turns₀ buffer n from item turns = length buffer ≡ length buffer₀
