@@ -28,7 +28,8 @@ stopped c =
     let w : tie.After-write-answer Inv-loop μ-loop = search in
     let t : tie.In-loop Inv-loop μ-loop = search in
     let i = t .before .loop .inv in
-    (i .0, i .1, i .2, i .3, going-bad (i .4) (t .loop-test .taken) (sym (m .before .before .part-at .ensures) ∙ ap partSays (m .why .given .1)) (w .write-answer .ensures .0) (w .write-answer .ensures .1))
+    let e = sym (m .before .before .part-at .ensures) ∙ ap partSays (m .why .given .1) in
+    (i .0, i .1, i .2, i .3, going-bad (i .4) (t .loop-test .taken) e (w .write-answer .ensures .0) (w .write-answer .ensures .1))
 
 -- a request is carried out
 carried-on : tie.Need-loop-again-2 Inv-loop μ-loop

@@ -36,7 +36,8 @@ room e = let s = start (e .before) in ltb-false (length (now (s .args .text))) (
 returns : tie.Need-returns
 returns c =
     let s = start (c .before) in
-    no-room (table s) (now (s .args .log)) (now (s .args .text)) (ltb-true (length (now (s .args .text))) (growRoom (length (now (s .args .log)))) (sym (c .before .too-short .ensures) ∙ c .if1 .taken))
+    no-room (table s) (now (s .args .log)) (now (s .args .text))
+    (ltb-true (length (now (s .args .text))) (growRoom (length (now (s .args .log)))) (sym (c .before .too-short .ensures) ∙ c .if1 .taken))
 
 returns-2 : tie.Need-returns-2
 returns-2 c =

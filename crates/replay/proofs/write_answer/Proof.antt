@@ -33,7 +33,8 @@ returns c =
     let b : tie.After-bytes-of = search in
     let w : tie.After-write-line = search in
     let m : tie.After-a = search in
-    line-written (now (s .args .text)) (s .args .at) (countedSays (s .args .a)) (s .pre .0) (sym (ap countedSays (m .a .given .1))) (w .write-line .ensures .0) (b .bytes-of .ensures) (w .write-line .ensures .1)
+    line-written (now (s .args .text)) (s .args .at) (countedSays (s .args .a)) (s .pre .0)
+    (sym (ap countedSays (m .a .given .1))) (w .write-line .ensures .0) (b .bytes-of .ensures) (w .write-line .ensures .1)
 
 returns-2 : tie.Need-returns-2
 returns-2 c =
@@ -41,7 +42,8 @@ returns-2 c =
     let b : tie.After-bytes-of2 = search in
     let w : tie.After-write-line2 = search in
     let m : tie.After-a2 = search in
-    line-written (now (s .args .text)) (s .args .at) (countedSays (s .args .a)) (s .pre .0) (sym (ap countedSays (m .a2 .given .1))) (w .write-line2 .ensures .0) (b .bytes-of2 .ensures) (w .write-line2 .ensures .1)
+    line-written (now (s .args .text)) (s .args .at) (countedSays (s .args .a)) (s .pre .0)
+    (sym (ap countedSays (m .a2 .given .1))) (w .write-line2 .ensures .0) (b .bytes-of2 .ensures) (w .write-line2 .ensures .1)
 
 pub write-answer-spec : {M : Type 1} → statement M
 write-answer-spec =

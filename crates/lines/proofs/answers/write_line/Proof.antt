@@ -15,7 +15,8 @@ returns c =
     let s : tie.Start = search in
     let w : tie.After-write-word = search in
     let e = w .write-word .ensures in
-    let f = ok-line _ ∙ ap lineText (sym (ap lineSays (w .before .before .before .before .line .given .1))) in
+    let m : tie.After-line = search in
+    let f = ok-line _ ∙ ap lineText (sym (ap lineSays (m .line .given .1))) in
     (e .0 ∙ ap (written (now (s .args .buffer)) (s .args .at)) f, e .1 ∙ ap (after (now (s .args .buffer)) (s .args .at)) f)
 
 returns-2 : tie.Need-returns-2
@@ -23,7 +24,8 @@ returns-2 c =
     let s : tie.Start = search in
     let w : tie.After-write-word2 = search in
     let e = w .write-word2 .ensures in
-    let f = ap (λ n. (110 ∷ 111 ∷ 32 ∷ []) ++ fieldText n 10) (w .before .number .ensures) ∙ no-line _ ∙ ap lineText (sym (ap lineSays (w .before .before .before .before .before .line2 .given .1))) in
+    let m : tie.After-line2 = search in
+    let f = ap (λ n. (110 ∷ 111 ∷ 32 ∷ []) ++ fieldText n 10) (w .before .number .ensures) ∙ no-line _ ∙ ap lineText (sym (ap lineSays (m .line2 .given .1))) in
     (e .0 ∙ ap (written (now (s .args .buffer)) (s .args .at)) f, e .1 ∙ ap (after (now (s .args .buffer)) (s .args .at)) f)
 
 pub write-line-spec : {M : Type 1} → statement M

@@ -69,7 +69,8 @@ whole-text c =
     let b : tie.After-write-bytes = search in
     let w : tie.After-write-rows = search in
     let a = begin e .args in
-    let t = table-written (table (begin e)) (a .count) (now (a .buffer)) (a .at) (good e) (fits (f .before) (f .if2 .left)) (b .write-bytes .ensures .1 ∙ ap (after (now (a .buffer)) (a .at)) heading-is) (w .write-rows .ensures) in
+    let h = b .write-bytes .ensures .1 ∙ ap (after (now (a .buffer)) (a .at)) heading-is in
+    let t = table-written (table (begin e)) (a .count) (now (a .buffer)) (a .at) (good e) (fits (f .before) (f .if2 .left)) h (w .write-rows .ensures) in
     (ap (λ n. answer (16 + n)) (f .before .before .rows-length .ensures) ∙ t .0, t .1)
 
 pub write-table-spec : {M : Type 1} → statement M
