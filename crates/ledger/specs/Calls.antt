@@ -6,11 +6,11 @@ use lib.Dec.{eqb}
 use lib.ListN.{length}
 use Rattle.rules.specs.Answers.{Answer, answer, refused, then, orElse}
 use Rattle.request.specs.Request.{Request}
-use Rattle.table.specs.Columns.{Columns, Table, counted, afterwards}
+use Rattle.table.specs.Columns.{Columns, Table, afterwards}
 use Rattle.fresh.specs.Fresh.{freshRows}
 use Rattle.order.specs.Order.{Order}
 use Rattle.order.specs.Order as table
-use Rattle.refine.specs.Refine.{refined}
+use Rattle.refine.specs.Refine.{answerTo, tableAfter}
 use Rattle.ledger.specs.Ledger.{Ledger, acceptedBy, ledgerRefined, ledgerOrder}
 
 -- whatever bytes and ids they bring
@@ -53,17 +53,14 @@ unfoldable pub explodedIn : ℕ → Ledger → List Call → Bool
 explodedIn x g [] = false
 explodedIn x g (k ∷ ks) = explodes x g k || explodedIn x (ledgerAfter g k) ks
 
--- The engine's side, by the definitions that the calls' contracts cite: `counted` and `afterwards` of `refined`, `order`
+-- The engine's side, by the definitions that the calls' contracts cite: `counted` and `afterwards` of `refined` (`answerTo`, `tableAfter`), `order`
 unfoldable pub engineReply : Table → Call → Reply
-engineReply s (refine bytes) = refineSays (counted (refined (s .columns) (s .count) bytes))
+engineReply s (refine bytes) = refineSays (answerTo s bytes)
 engineReply s (order a b) = orderSays (table.order (s .columns) (s .count) a b)
 
 -- the next call gets the columns as this one left them and the count that the last accepted refine answered
 unfoldable pub engineAfter : Table → Call → Table
-engineAfter s (refine bytes) = record {
-  columns = afterwards (refined (s .columns) (s .count) bytes) (s .columns);
-  count = orElse (counted (refined (s .columns) (s .count) bytes)) (s .count);
-}
+engineAfter s (refine bytes) = tableAfter s bytes
 engineAfter s (order a b) = s
 
 unfoldable pub engineReplies : Table → List Call → List Reply

@@ -4,12 +4,12 @@ use mathlib.Core.List.{List, [], _∷_, _++_, map}
 use Prim.Native.Nat.{ℕ, _+_}
 use lib.Dec.{eqb}
 use lib.ListN.{length}
-use Rattle.rules.specs.Answers.{Answer, answer, then}
+use Rattle.rules.specs.Answers.{Answer, answer, then, orElse}
 use Rattle.request.specs.Entries.{Entry, entry, entryOf, quota, before, without}
 use Rattle.request.specs.Request.{Request, entries, leftOf, rightOf}
 use Rattle.request.specs.Reading.{requestOf}
 use Rattle.request.specs.Acceptance.{accepted}
-use Rattle.table.specs.Columns.{Row, Columns, lowL, lowR, sizeOf}
+use Rattle.table.specs.Columns.{Row, lowL, lowR, sizeOf, Columns, Table, counted, afterwards}
 use Rattle.table.specs.Check.{checked}
 
 -- a row's group: its id and its quota
@@ -50,3 +50,14 @@ explodedRows room t q = then (accepted room (groupsOf t) q) λ _. answer (refine
 -- 10 to 13 in that order, the request from left to right, then 20 to 24
 unfoldable pub refined : Columns → ℕ → List ℕ → Answer (List Row)
 refined c count bytes = then (checked c count) λ t. then (requestOf bytes) λ q. explodedRows (length (c .id)) t q
+
+-- a table that is handed on from request to request: the answer is the new count, or the refusal
+abbrev pub answerTo : Table → List ℕ → Answer ℕ
+answerTo t request = counted (refined (t .columns) (t .count) request)
+
+-- the table after a request; a refused one changes neither the columns nor the count
+abbrev pub tableAfter : Table → List ℕ → Table
+tableAfter t request = record {
+  columns = afterwards (refined (t .columns) (t .count) request) (t .columns);
+  count = orElse (answerTo t request) (t .count);
+}

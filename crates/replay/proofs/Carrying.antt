@@ -14,7 +14,7 @@ use Rattle.log.proofs.Laws.{part-in, stop, bad, goes-on}
 use Rattle.lines.specs.Lines.{lineText, tableText, tableAnswer, tableBuffer}
 use Rattle.lines.proofs.Laws.{line-most, table-most, table-good}
 use Rattle.table.specs.Columns.{Table, rowsIn}
-use Rattle.replay.specs.Run.{answerTo, tableAfter}
+use Rattle.refine.specs.Refine.{answerTo, tableAfter}
 use Rattle.replay.specs.Replay.{Replay, replayFrom, lineRoom, tableRoom}
 use Rattle.replay.specs.inside.Carrying.{carried}
 use Rattle.replay.proofs.Running.{Held, held-within, held-after, before, before-before, replay-none, replay-bad, replay-more}

@@ -18,7 +18,7 @@ use Rattle.log.proofs.Laws.{pair-in, part-in, stop, no-more, one-more}
 use Rattle.lines.specs.Lines.{lineText, columnsBad}
 use Rattle.lines.proofs.Laws.{line-most, table-most}
 use Rattle.table.specs.Columns.{Table, rowsIn}
-use Rattle.replay.specs.Run.{answerTo, tableAfter}
+use Rattle.refine.specs.Refine.{answerTo, tableAfter}
 use Rattle.replay.specs.Replay.{Replay, replayFrom, replayOf, textOf, growText, growRoom, growAnswer, lineRoom, tableRoom}
 use Rattle.replay.specs.inside.Carrying.{carried}
 use Rattle.replay.proofs.Running.{Held, held-within, held-after, before, replay-none, replay-bad, replay-more}

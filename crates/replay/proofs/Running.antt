@@ -25,7 +25,8 @@ use Rattle.log.specs.Log.{Requests, noMore, oneMore}
 use Rattle.lines.specs.Lines.{lineText, tableText, columnsBad}
 use Rattle.lines.proofs.Laws.{columns-good, line-most}
 use Rattle.table.specs.Columns.{Table, rowsIn}
-use Rattle.replay.specs.Run.{answerTo, tableAfter, answersTo, tableEnd}
+use Rattle.refine.specs.Refine.{answerTo, tableAfter}
+use Rattle.replay.specs.Run.{answersTo, tableEnd}
 use Rattle.replay.specs.Replay.{Replay, endText, replayFrom, growRoom, lineRoom, tableRoom}
 use Rattle.replay.specs.inside.Carrying.{Countable}
 
