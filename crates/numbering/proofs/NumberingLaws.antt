@@ -30,7 +30,14 @@ forest-back (suc most) quotas ends sums at to none s e h = rw (le-ltb at to (ome
 forest-back zero quotas ends sums at to (tree i c f) s e h = absurd (omega arith)
 forest-back (suc most) quotas ends sums at to (tree i c f) s e h =
     let g = s .0 .end-is in
-    rw (lt-ltb at to (omega arith), s .0 .quota-is, g, forest-back most quotas ends sums (at + 1) (at + 1 + size c) c (s .2) refl (omega arith), forest-back most quotas ends sums (at + 1 + size c) to f (s .3) (omega arith) (omega arith))
+    rw (
+      lt-ltb at to (omega arith),
+      s .0 .quota-is,
+      g,
+      forest-back most quotas ends sums (at + 1) (at + 1 + size c) c (s .2) refl (omega arith),
+      forest-back most quotas ends sums
+          (at + 1 + size c) to f (s .3) (omega arith) (omega arith),
+    )
     (ap (λ n. tree (entry n (quota i)) c f) (s .0 .id-is))
 
 -- the box of the first tree, of the subtree quota s, in a box of the quota b
@@ -159,7 +166,8 @@ module _ {w : Work} {up : Bool} {from to : ℕ} {ls rs : List ℕ} {p bl br b : 
       let z = size-zero (n .trees) (let e = n .ends-at in omega arith) in
       let k : p - from ≡ to - from = let e = n .ends-at in omega arith in (
         sym (append-nil l) ∙ sym (ap₂ (λ x y. x ++ lefts (directionBy up) bl y) (ap (λ m. take m l) k ∙ take-all (to - from) l (let e = n .l-length in omega arith)) z ∙ lefts-none up l) ∙ n .l-whole,
-        sym (append-nil r) ∙ sym (ap₂ (λ x y. x ++ rights (directionBy up) br y) (ap (λ m. take m r) k ∙ take-all (to - from) r (let e = n .r-length in omega arith)) z ∙ rights-none up r) ∙ n .r-whole,
+        sym (append-nil r) ∙ sym (ap₂ (λ x y. x ++ rights (directionBy up) br y) (ap (λ m. take m r) k ∙ take-all (to - from) r (let e = n .r-length in omega arith)) z ∙ rights-none up r)
+            ∙ n .r-whole,
       )
     where
       lefts-none : (v : Bool) (s : List ℕ) → s ++ lefts (directionBy v) bl none ≡ s ++ []
@@ -205,7 +213,13 @@ filled-length : (s ys : List ℕ) (i k e x : ℕ) → k ≤ e → e ≤ length s
 filled-length s ys i k e x ke es n =
     let m = length-set s i x in
     let lk : length (take k (set s i x)) ≡ k = length-take-le k (set s i x) (omega arith) in
-    rw (length-append (take k (set s i x)) (ys ++ drop (e - k) (drop k (set s i x))), length-append ys (drop (e - k) (drop k (set s i x))), length-drop (e - k) (drop k (set s i x)), length-drop k (set s i x))
+    rw (
+      length-append (take k (set s i x)) (ys ++ drop (e - k) (drop k (set s i x))),
+      length-append ys (drop (e - k) (drop k (set s i x))),
+      length-drop (e - k)
+          (drop k (set s i x)),
+      length-drop k (set s i x),
+    )
     (omega arith)
 
 -- the part of a work column that is lent to the children of entry p
@@ -227,11 +241,13 @@ module _ {w : Work} {up : Bool} {from to : ℕ} {ls rs : List ℕ} {p bl br b : 
 
   -- the children in their box
   pub inner-boxed : (ls′ rs′ : List ℕ) → length ls′ ≡ size (h .children) → length rs′ ≡ size (h .children) → (child : Box) → child ≡ childOf bl br b (getD (w .quotas) p 0 + whole (h .children))
-      → Boxed w (p + 1) (p + 1 + size (h .children)) (innerOf up child (getD (w .quotas) p 0) .l .0) (innerOf up child (getD (w .quotas) p 0) .r .0) (innerOf up child (getD (w .quotas) p 0) .quota) ls′ rs′ (h .children)
+      → Boxed w (p + 1) (p + 1 + size (h .children)) (innerOf up child (getD (w .quotas) p 0) .l .0) (innerOf up child (getD (w .quotas) p 0) .r .0)
+      (innerOf up child (getD (w .quotas) p 0) .quota) ls′ rs′ (h .children)
   inner-boxed ls′ rs′ nl nr child e = rw e (go up)
     where
       go : (v : Bool) → Boxed w (p + 1) (p + 1 + size (h .children)) (innerOf v (childOf bl br b (getD (w .quotas) p 0 + whole (h .children))) (getD (w .quotas) p 0) .l .0)
-          (innerOf v (childOf bl br b (getD (w .quotas) p 0 + whole (h .children))) (getD (w .quotas) p 0) .r .0) (innerOf v (childOf bl br b (getD (w .quotas) p 0 + whole (h .children))) (getD (w .quotas) p 0) .quota) ls′ rs′ (h .children)
+          (innerOf v (childOf bl br b (getD (w .quotas) p 0 + whole (h .children))) (getD (w .quotas) p 0) .r .0)
+          (innerOf v (childOf bl br b (getD (w .quotas) p 0 + whole (h .children))) (getD (w .quotas) p 0) .quota) ls′ rs′ (h .children)
       go true = let f = h .fits in let le = h .l-end in let re = h .r-end in
           record { stored = h .stored-children; ends-at = refl; fits = omega arith; l-end = omega arith; r-end = omega arith; l-part = nl; r-part = nr }
       go false = let f = h .fits in let le = h .l-end in let re = h .r-end in
@@ -313,7 +329,8 @@ module _ {w : Work} {up : Bool} {from to : ℕ} {ls rs : List ℕ} {p bl br b : 
 
   -- what the code's cut says
   module _ {cut-off : Cut} {s : ℕ} (e : cut-off ≡ nextChild (boxOf bl br b) s) (es : s ≡ getD (w .quotas) p 0 + whole (h .children)) where
-    cut-is : cut-off ≡ Parts (childOf bl br b (getD (w .quotas) p 0 + whole (h .children))) (boxOf (bl + (getD (w .quotas) p 0 + whole (h .children))) br (b - (getD (w .quotas) p 0 + whole (h .children))))
+    cut-is : cut-off ≡ Parts (childOf bl br b (getD (w .quotas) p 0 + whole (h .children)))
+        (boxOf (bl + (getD (w .quotas) p 0 + whole (h .children))) br (b - (getD (w .quotas) p 0 + whole (h .children))))
     cut-is = e ∙ ap (nextChild (boxOf bl br b)) es ∙ cut
 
     pub never : cut-off ≡ None → ⊥

@@ -134,7 +134,8 @@ module _ (c : Columns) (n : ℕ) (good : checked c n ≡ answer (rows c n)) wher
           length-map (entries a) (λ (e : Entry). e .id),
         )
         (let ids = map (λ (e : Entry). e .id) (entries a) in
-        four (not (eqb (timesIn (a .exploded) ids) 1)) (someId (takenIn (a .exploded) (take n (c .id)) ids) ids) (not (eqb (total (entries a)) (getD (c .q) own 0))) (ltb (length (c .id)) (n + length (entries a) - 1)) a
+        four (not (eqb (timesIn (a .exploded) ids) 1)) (someId (takenIn (a .exploded) (take n (c .id)) ids) ids) (not (eqb (total (entries a)) (getD (c .q) own 0)))
+        (ltb (length (c .id)) (n + length (entries a) - 1)) a
         (λ _. answer own))
 
     pub judged-is : Judges

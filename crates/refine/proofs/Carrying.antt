@@ -117,7 +117,8 @@ module _ (c : Columns) (n : ℕ) (good : checked c n ≡ answer (rows c n)) {byt
     inside : own < n
     inside =
         there c n good (g .request)
-        (le-leb 1 (timesIn (g .request .exploded) (take n (c .id))) (omega (arith, times-rows c n good (g .request .exploded), request-accepted (length (c .id)) (groupsOf (rows c n)) (g .request) ok .0 .known)))
+        (le-leb 1 (timesIn (g .request .exploded) (take n (c .id)))
+        (omega (arith, times-rows c n good (g .request .exploded), request-accepted (length (c .id)) (groupsOf (rows c n)) (g .request) ok .0 .known)))
 
     own-is : i ≡ own
     own-is = sym (same-answer (found .2))

@@ -50,7 +50,14 @@ bounded-map f b (e ∷ s) h (suc k) m = bounded-map f b s (λ x i. h x (omega ar
 pub refined-length : (a : Request) (t : List Row) → times (a .exploded) (entries a) ≡ 1 → length (refineRows a t) + 1 ≡ length t + length (entries a)
 unfolding refineRows
 refined-length a t once =
-    omega (arith, length-append (keptRows a t) (newRows a t), length-map t (λ (w : Row). keptRow a w), length-map (without (a .exploded) (entries a)) (rowFor a (rowIn (a .exploded) t)), without-length (a .exploded) (entries a) once)
+    omega (
+      arith,
+      length-append (keptRows a t) (newRows a t),
+      length-map t (λ (w : Row). keptRow a w),
+      length-map (without (a .exploded) (entries a))
+          (rowFor a (rowIn (a .exploded) t)),
+      without-length (a .exploded) (entries a) once,
+    )
 
 -- an accepted request and the columns
 module _ (c : Columns) (n : ℕ) (good : checked c n ≡ answer (rows c n)) (bytes : List ℕ) {a : Request} (is : requestOf bytes ≡ answer a)
@@ -99,14 +106,32 @@ module _ (c : Columns) (n : ℕ) (good : checked c n ≡ answer (rows c n)) (byt
     left-bounded k m =
         let same = same-left (a .direction) (a .trees) in
         let b = bounded-map (λ e. 0 + before (e .id) (leftOf a)) (greatest - getD (c .l) own 0) (entries a)
-        (λ e i. omega (arith, before-within (e .id) (leftOf a) (omega (arith, same (oneAt (e .id)))), same (quotaAt (e .id)), same quota, positive-quota (e .id) (entries a) (read .positive), fills, sound .l-end)) k m in
+        (λ e i. omega (
+          arith,
+          before-within (e .id) (leftOf a) (omega (arith, same (oneAt (e .id)))),
+          same (quotaAt (e .id)),
+          same quota,
+          positive-quota (e .id) (entries a)
+              (read .positive),
+          fills,
+          sound .l-end,
+        )) k m in
         omega (arith, b, sound .l-end, sound .q-some)
 
     pub right-bounded : Bounded (getD (c .r) own 0) (map (λ e. 0 + before (e .id) (rightOf a)) (entries a))
     right-bounded k m =
         let same = same-right (a .direction) (a .trees) in
         let b = bounded-map (λ e. 0 + before (e .id) (rightOf a)) (greatest - getD (c .r) own 0) (entries a)
-        (λ e i. omega (arith, before-within (e .id) (rightOf a) (omega (arith, same (oneAt (e .id)))), same (quotaAt (e .id)), same quota, positive-quota (e .id) (entries a) (read .positive), fills, sound .r-end)) k m in
+        (λ e i. omega (
+          arith,
+          before-within (e .id) (rightOf a) (omega (arith, same (oneAt (e .id)))),
+          same (quotaAt (e .id)),
+          same quota,
+          positive-quota (e .id) (entries a)
+              (read .positive),
+          fills,
+          sound .r-end,
+        )) k m in
         omega (arith, b, sound .r-end, sound .q-some)
 
     pub has-rows : HasRows (a .exploded) own n ids (c .id)
@@ -117,7 +142,8 @@ module _ (c : Columns) (n : ℕ) (good : checked c n ≡ answer (rows c n)) (byt
         → of (rowFor a (rowAt c own) (entryOf (a .exploded) (entries a))) ≡ base + sum (valueAt (a .exploded) f) (entries a)
         → placed (a .exploded) own n base ids (map f (entries a)) col ≡ overlay (map of (refineRows a (rows c n))) col
     column of col e reads base f others own-row =
-        column-after c n own a (place-in (c .id) n (a .exploded) (passed c n good .most) .there inside) inside (passed c n good .good .ids) (taken .once) of col (omega (arith, room, e)) reads base f others own-row
+        column-after c n own a (place-in (c .id) n (a .exploded) (passed c n good .most) .there inside) inside (passed c n good .good .ids) (taken .once) of col
+        (omega (arith, room, e)) reads base f others own-row
 
     -- the columns that the code leaves
     pub columns-after : (m : ℕ) (w s l r : List ℕ) → take m w ≡ ids → take m s ≡ map quota (entries a) → take m l ≡ map (λ e. 0 + before (e .id) (leftOf a)) (entries a)

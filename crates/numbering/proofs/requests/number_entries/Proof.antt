@@ -43,8 +43,11 @@ number-entries-spec =
     let t = forestIn (now (s .args .quotas)) (now (s .args .ends)) 0 (s .args .entries) in
     let m : whole t ≤ greatest = omega (arith, b .if1 .taken, s .pre .1 .fits) in
     let ll = y .number-trees .kept .1 .1 .1 .1 .1 .1 .1 .0 ∙ length-take-le (s .args .entries) (now (s .args .l)) (s .pre .0 .3) in
-    let rl = y .number-trees .kept .1 .1 .1 .1 .1 .1 .1 .1 .0 ∙ length-take-le (s .args .entries) (now (s .args .r)) (s .pre .0 .4) in
-    (numbered (now (s .args .l)) _ (s .args .entries) lefts (s .args .upright) t (y .number-trees .ensures .0) m ll (s .pre .0 .3), numbered (now (s .args .r)) _ (s .args .entries) rights (s .args .upright) t (y .number-trees .ensures .1) m rl (s .pre .0 .4)))
+    let rl = y .number-trees .kept .1 .1 .1 .1 .1 .1 .1 .1 .0 ∙ length-take-le (s .args .entries) (now (s .args .r)) (s .pre .0 .4) in (
+      numbered (now (s .args .l)) _ (s .args .entries) lefts (s .args .upright) t (y .number-trees .ensures .0) m ll (s .pre .0 .3),
+      numbered (now (s .args .r)) _ (s .args .entries) rights
+          (s .args .upright) t (y .number-trees .ensures .1) m rl (s .pre .0 .4),
+    ))
     (λ c.
     let s : tie.Start = c .before .before .before .before .before .before in
     let t = forestIn (now (s .args .quotas)) (now (s .args .ends)) 0 (s .args .entries) in

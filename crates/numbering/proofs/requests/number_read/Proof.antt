@@ -43,8 +43,11 @@ number-read-spec =
     let bytes = k .before .before .before .before .before .before .before .before .shared-slice-known in
     let lq = c .before .before .before .before .before .before .number-entries-arg2 .given .0 in
     let le = c .before .before .before .before .number-entries-arg4 .given .0 in
-    let ls = c .before .before .number-entries-arg6 .given .0 in
-    ((omega (arith, r .entries-most), omega (arith, r .entries-most), omega (arith, r .entries-most), omega (arith, r .entries-most), omega (arith, r .entries-most)), held (λ i. omega (arith, bytes .given i)) r lq le ls))
+    let ls = c .before .before .number-entries-arg6 .given .0 in (
+      (omega (arith, r .entries-most), omega (arith, r .entries-most), omega (arith, r .entries-most), omega (arith, r .entries-most), omega (arith, r .entries-most)),
+      held
+          (λ i. omega (arith, bytes .given i)) r lq le ls,
+    ))
     (λ c.
     let d = c .before .before .before .read-request in
     let s = c .before .before .before .before .before .before .before .before .before in

@@ -72,7 +72,8 @@ first : (t : ℕ) (c : Loop t)
     → let a = start c .args in
     let s = c .before .loop in
     let f = forestIn (now (a .quotas)) (now (a .ends)) (a .from) (a .to) in
-    Here (work [] (now (a .quotas)) (now (a .ends)) (now (a .sums))) (a .upright) (a .from) (a .to) (lefts (directionBy (a .upright)) (a .area .l .0) f) (rights (directionBy (a .upright)) (a .area .r .0) f)
+    Here (work [] (now (a .quotas)) (now (a .ends)) (now (a .sums))) (a .upright) (a .from) (a .to) (lefts (directionBy (a .upright)) (a .area .l .0) f)
+    (rights (directionBy (a .upright)) (a .area .r .0) f)
     (s .p) (s .rest .l .0) (s .rest .r .0) (s .rest .quota) (s .l) (s .r)
 first t c = here (c .before .loop .inv) (c .loop-test .taken)
 
@@ -157,8 +158,10 @@ pub +number-trees-spec : {M : Type 1} → statement M
     let h = first t (round k) in
     let p : Corner t = search in
     let x : Inner t = search in
-    let parts = parts-at t p in
-    (omega (arith, s .pre .0, h .behind, h .end-is, h .ends-at), (omega (arith, s .pre .1 .0, h .end-is, h .ends-at), boxed-in h _ _ _ _ _ (h .end-is) (child-at t k) (x .inner .ensures) (parts .0) (parts .1))))
+    let parts = parts-at t p in (
+      omega (arith, s .pre .0, h .behind, h .end-is, h .ends-at),
+      (omega (arith, s .pre .1 .0, h .end-is, h .ends-at), boxed-in h _ _ _ _ _ (h .end-is) (child-at t k) (x .inner .ensures) (parts .0) (parts .1)),
+    ))
     (λ c. let k : Child t = search in let h = first t (round k) in let b = h .behind in let e = h .end-is in let a = h .ends-at in omega arith)
     (λ c.
     let y : Filled t = c .before .before .before .before in
@@ -170,7 +173,8 @@ pub +number-trees-spec : {M : Type 1} → statement M
     let up = directionBy (s .args .upright) in
     let back = children-back h _ (h .end-is) in
     moves h _ _ _ _ _ _ _ _ _ refl refl refl (h .end-is) (child-at t k) (left-is h (k .before .before .before .next-child .ensures) (h .sum-is) (k .before .child .given .1)) (p .corner .ensures)
-    (y .number-trees .ensures .0 ∙ ap₂ (λ (z : Box) f. lefts up (z .l .0) f) (x .inner .ensures) back) (y .number-trees .ensures .1 ∙ ap₂ (λ (z : Box) f. rights up (z .r .0) f) (x .inner .ensures) back))
+    (y .number-trees .ensures .0 ∙ ap₂ (λ (z : Box) f. lefts up (z .l .0) f) (x .inner .ensures) back)
+    (y .number-trees .ensures .1 ∙ ap₂ (λ (z : Box) f. rights up (z .r .0) f) (x .inner .ensures) back))
     (λ c. let n = c .before .loop .inv in let b = c .before .before .before .before .before .before .before .pre .1 .1 in omega (arith, n .l-length, b .l-part, b .ends-at))
     (λ c. let n = c .before .loop .inv in let b = c .before .before .before .before .before .before .before .pre .1 .1 in omega (arith, n .r-length, b .r-part, b .ends-at))
     (λ c. done (c .before .loop .inv) (c .loop-test .left))

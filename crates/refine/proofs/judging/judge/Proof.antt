@@ -51,7 +51,8 @@ judge-spec =
     let e = c .before .before in
     let b = else1 e in
     let s = start (b .before) in
-    clash (now (s .args .id)) (now (s .args .q)) _ _ (ids-at s) _ (b .before .place-of .ensures) (b .if1 .left) (e .before .times .ensures) (e .if2 .left) (c .before .some-id-taken .ensures) (c .if3 .taken))
+    clash (now (s .args .id)) (now (s .args .q)) _ _ (ids-at s) _ (b .before .place-of .ensures) (b .if1 .left) (e .before .times .ensures) (e .if2 .left)
+    (c .before .some-id-taken .ensures) (c .if3 .taken))
     (λ c. let b = else1 (else2 c) in let s = start (b .before) in omega (arith, in-table b, s .pre))
     (λ c. let b = else1 (else2 (c .before)) in let s = start (b .before) in omega (arith, in-table b, s .pre))
     (λ c. omega (arith, c .shared-slice-known4 .given (else1 (else2 (c .before)) .before .place-of .result)))
@@ -60,7 +61,8 @@ judge-spec =
     let e = else2 f in
     let b = else1 e in
     let s = start (b .before) in
-    wrong-sum (now (s .args .id)) (now (s .args .q)) _ _ (ids-at s) _ (b .before .place-of .ensures) (b .if1 .left) (e .before .times .ensures) (e .if2 .left) (f .before .some-id-taken .ensures) (f .if3 .left) (c .if4 .taken))
+    wrong-sum (now (s .args .id)) (now (s .args .q)) _ _ (ids-at s) _ (b .before .place-of .ensures) (b .if1 .left) (e .before .times .ensures) (e .if2 .left)
+    (f .before .some-id-taken .ensures) (f .if3 .left) (c .if4 .taken))
     (λ c. search needs)
     (λ c. let b = else1 (else2 (else3 c)) in omega (arith, in-table b))
     (λ c.
@@ -68,10 +70,12 @@ judge-spec =
     let e = else2 f in
     let b = else1 e in
     let s = start (b .before) in
-    no-rows (now (s .args .id)) (now (s .args .q)) _ _ (ids-at s) _ (b .before .place-of .ensures) (b .if1 .left) (e .before .times .ensures) (e .if2 .left) (f .before .some-id-taken .ensures) (f .if3 .left) (c .before .if4 .left) (entries-at s) (c .if5 .taken))
+    no-rows (now (s .args .id)) (now (s .args .q)) _ _ (ids-at s) _ (b .before .place-of .ensures) (b .if1 .left) (e .before .times .ensures) (e .if2 .left)
+    (f .before .some-id-taken .ensures) (f .if3 .left) (c .before .if4 .left) (entries-at s) (c .if5 .taken))
     (λ c.
     let f = else3 (c .before) in
     let e = else2 f in
     let b = else1 e in
     let s = start (b .before) in
-    passes (now (s .args .id)) (now (s .args .q)) _ _ (ids-at s) _ (b .before .place-of .ensures) (b .if1 .left) (e .before .times .ensures) (e .if2 .left) (f .before .some-id-taken .ensures) (f .if3 .left) (c .before .if4 .left) (entries-at s) (c .if5 .left)))
+    passes (now (s .args .id)) (now (s .args .q)) _ _ (ids-at s) _ (b .before .place-of .ensures) (b .if1 .left) (e .before .times .ensures) (e .if2 .left)
+    (f .before .some-id-taken .ensures) (f .if3 .left) (c .before .if4 .left) (entries-at s) (c .if5 .left)))

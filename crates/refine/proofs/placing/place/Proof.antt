@@ -37,11 +37,14 @@ place-spec =
     (λ c. omega (arith, value-fits (c .before)))
     (λ c. omega arith)
     (λ c. omega arith)
-    (λ c. let l = c .before .before .before .before in let p = l .before .pre .0 in omega (arith, own-fits (p .0) (p .1) (l .loop .inv) (c .before .before .before .loop-test .taken), l .loop .inv .same, l .before .good))
+    (λ c. let l = c .before .before .before .before in let p = l .before .pre .0 in omega
+    (arith, own-fits (p .0) (p .1) (l .loop .inv) (c .before .before .before .loop-test .taken), l .loop .inv .same, l .before .good))
     (λ c. let l = c .before .before .before .before in let p = l .before .pre .0 in own-fits (p .0) (p .1) (l .loop .inv) (c .before .before .before .loop-test .taken))
-    (λ c. let l = c .before .before .before .before in let p = l .before .pre .0 in omega (arith, row-fits (p .0) (p .1) (l .loop .inv) (c .before .before .before .loop-test .taken) (c .if1 .left), l .loop .inv .same, l .before .good))
+    (λ c. let l = c .before .before .before .before in let p = l .before .pre .0 in omega
+    (arith, row-fits (p .0) (p .1) (l .loop .inv) (c .before .before .before .loop-test .taken) (c .if1 .left), l .loop .inv .same, l .before .good))
     (λ c. let l = c .before .before .before .before in let p = l .before .pre .0 in row-fits (p .0) (p .1) (l .loop .inv) (c .before .before .before .loop-test .taken) (c .if1 .left))
-    (λ c. let l = c .before .before .before .before in let p = l .before .pre .0 in omega (arith, row-fits (p .0) (p .1) (l .loop .inv) (c .before .before .before .loop-test .taken) (c .if1 .left), l .loop .inv .same, l .before .good))
+    (λ c. let l = c .before .before .before .before in let p = l .before .pre .0 in omega
+    (arith, row-fits (p .0) (p .1) (l .loop .inv) (c .before .before .before .loop-test .taken) (c .if1 .left), l .loop .inv .same, l .before .good))
     (λ c. omega arith)
     (λ c. omega arith)
     (λ c.

@@ -29,20 +29,31 @@ place-entries-spec =
     (tie.spec
     (λ c. search needs) (λ c. search needs) (λ c. search needs) (λ c. search needs)
     (λ c κs.
-    let s : tie.Start = c .before .before .before .before .before .before .before .before .before .before .before in
+    let s : tie.Start = search in
     let p = s .pre .0 in
     ((p .0, p .0), (rows-at s (now (s .args .id)) refl, bounds _ _ (p .0) (λ k. omega (arith, c .before .before .before .before .before .before .shared-slice-known .given k)))))
     (λ c κs.
-    let s : tie.Start = c .before .before .before .before .before .before .before .before .before .before .before .before .before .before .before in
+    let s : tie.Start = search in
     let p = s .pre .0 in
     ((p .0, p .2), (rows-at s (now (s .args .l)) (s .pre .1 .0 .0), s .pre .1 .1 .1 .0)))
     (λ c κs.
-    let s : tie.Start = c .before .before .before .before .before .before .before .before .before .before .before .before .before .before .before .before .before .before .before in
+    let s : tie.Start = search in
     let p = s .pre .0 in
     ((p .0, p .3), (rows-at s (now (s .args .r)) (s .pre .1 .0 .1), s .pre .1 .1 .1 .1)))
     (λ c κs.
-    let s : tie.Start = c .before .before .before .before .before .before .before .before .before .before .before .before .before .before .before .before .before .before .before .before .before .before .before in
-    let p = s .pre .0 in
-    ((p .0, p .1), (rows-at s (now (s .args .q)) (s .pre .1 .0 .2), bounds _ _ (p .1) (λ k. omega (arith, c .before .before .before .before .before .before .before .before .before .before .before .before .before .before .before .before .before .shared-slice-known2 .given k)))))
+    let s : tie.Start = search in
+    let known = c .before .before .before .before .before .before .before .before .before .before .before .before .before .before .before .before .before in
+    let p = s .pre .0 in (
+      (p .0, p .1),
+      (
+        rows-at s (now (s .args .q)) (s .pre .1 .0 .2),
+        bounds _ _ (p .1)
+            (λ k. omega (arith, known .shared-slice-known2 .given k)),
+      ),
+    ))
     (λ c. search needs) (λ c. search needs) (λ c. search needs) (λ c. search needs)
-    (λ c. rw (c .before .before .before .before .before .before .before .before .before .before .before .before .before .before .place .ensures, c .before .before .before .before .before .before .before .before .before .before .place2 .ensures, c .before .before .before .before .before .before .place3 .ensures, c .before .before .place4 .ensures)))
+    (λ c.
+    let a : tie.After-place = search in
+    let b : tie.After-place2 = search in
+    let d : tie.After-place3 = search in
+    rw (a .place .ensures, b .place2 .ensures, d .place3 .ensures, c .before .before .place4 .ensures)))

@@ -65,7 +65,7 @@ carry-out-spec =
     ((p .most, p .lengths .most, p .lengths .in-q), (omega (arith, g .entries-most, il), il)))
     (λ c. search needs) (λ c. search needs)
     (λ c κs.
-    let d : tie.After-known-told4 = c .before .before .before .before .before .before .before .before .before .before .before .before in
+    let d : tie.After-known-told4 = search in
     let k = read (asked d) in
     let s = start k in
     let p = good-at s in
@@ -73,13 +73,20 @@ carry-out-spec =
     let n = k .before .before .before .number-request in
     let ll = c .before .before .place-entries-arg10 .given .0 in
     let rl = c .place-entries-arg12 .given .0 in
-    let w = asks (cols s) (s .args .count) (s .pre) g (n .last .1 .0) (front-at (asked d)) (row-at d) (now (s .args .before-l)) (n .last .1 .1 .1 .0) (now (s .args .before-r)) (n .last .1 .1 .1 .1 .0) (n .ensures .1 .1 .0) (n .ensures .1 .1 .1) ll rl in
+    let w = asks (cols s) (s .args .count) (s .pre) g (n .last .1 .0) (front-at (asked d)) (row-at d) (now (s .args .before-l)) (n .last .1 .1 .1 .0) (now (s .args .before-r))
+    (n .last .1 .1 .1 .1 .0) (n .ensures .1 .1 .0) (n .ensures .1 .1 .1) ll rl in
     let m = g .entries-most in
     let il = c .before .before .before .before .before .before .place-entries-arg6 .given .0 in
     let ql = c .before .before .before .before .place-entries-arg8 .given .0 in
     ((omega (arith, m, il), omega (arith, m, ql), omega (arith, m, ll), omega (arith, m, rl)), ((p .lengths .in-l, p .lengths .in-r, p .lengths .in-q), ((p .most, w .0), (w .1, w .2)))))
-    (λ c. let k = read (asked (c .before .before .before .before .before .before .before .before .before .before .before .before .before .before .before .before .before .before .before .before .before)) in let p = good-at (start k) in omega (arith, p .most, p .lengths .most, given-at k .entries-most))
-    (λ c. let k = read (asked (c .before .before .before .before .before .before .before .before .before .before .before .before .before .before .before .before .before .before .before .before .before)) in omega (arith, given-at k .entries-some))
+    (λ c.
+    let d : tie.After-known-told4 = search in
+    let k = read (asked d) in
+    let p = good-at (start k) in
+    omega (arith, p .most, p .lengths .most, given-at k .entries-most))
+    (λ c.
+    let d : tie.After-known-told4 = search in
+    omega (arith, given-at (read (asked d)) .entries-some))
     (λ c.
     let s = c .before .before .before .before .before .before .before .before .before .before .before .before .before in
     refuses (cols s) _ _ (unread (cols s) (s .args .count) (now (s .args .request)) (s .pre) (sym (ap requestSays (c .before .why .given .1)) ∙ c .before .before .before .number-request .ensures .0)))
@@ -88,11 +95,12 @@ carry-out-spec =
     let b = c .before .before .before .before in
     let k = read b in
     let s = start k in
-    refuses (cols s) _ _ (judged-refused (cols s) (s .args .count) (s .pre) (given-at k) (k .before .before .before .number-request .last .1 .0) (front-at b) (sym (ap judgedSays (c .before .why2 .given .1)) ∙ c .before .before .before .judge .ensures)))
+    refuses (cols s) _ _ (judged-refused (cols s) (s .args .count) (s .pre) (given-at k) (k .before .before .before .number-request .last .1 .0) (front-at b)
+    (sym (ap judgedSays (c .before .why2 .given .1)) ∙ c .before .before .before .judge .ensures)))
     (λ c. search needs) (λ c. search needs) (λ c. search needs) (λ c. search needs)
     (λ c.
-    let e : tie.After-place-entries = c .before .before .before .before .before .before .before .before in
-    let d : tie.After-known-told4 = e .before .before .before .before .before .before .before .before .before .before .before .before .before in
+    let e : tie.After-place-entries = search in
+    let d : tie.After-known-told4 = search in
     let k = read (asked d) in
     let s = start k in
     let g = given-at k in
@@ -101,5 +109,6 @@ carry-out-spec =
     let ll = e .before .before .before .place-entries-arg10 .given .0 in
     let rl = e .before .place-entries-arg12 .given .0 in
     let eq = quotas-front g (now (s .args .ids)) (n .last .1 .0) (now (s .args .quotas)) (n .last .1 .1 .0) (n .ensures .1 .0) ql in
-    lands (cols s) (s .args .count) (s .pre) g (n .last .1 .0) (front-at (asked d)) (row-at d) (now (s .args .before-l)) (n .last .1 .1 .1 .0) (now (s .args .before-r)) (n .last .1 .1 .1 .1 .0) (n .ensures .1 .1 .0) (n .ensures .1 .1 .1) ll rl
+    lands (cols s) (s .args .count) (s .pre) g (n .last .1 .0) (front-at (asked d)) (row-at d) (now (s .args .before-l)) (n .last .1 .1 .1 .0) (now (s .args .before-r))
+    (n .last .1 .1 .1 .1 .0) (n .ensures .1 .1 .0) (n .ensures .1 .1 .1) ll rl
     (n .last .1 .1 .0) eq (e .place-entries .ensures)))
