@@ -1,6 +1,7 @@
 -- The cases of the definitions, with a difference in the place of each sum, which may not fit.
 use mathlib.Core.Path.{_≡_, refl, sym, _∙_}
-use mathlib.Core.Bool.{Bool, true, false}
+use mathlib.Core.Bool.{Bool, true, false, cond}
+use mathlib.Core.Logic.{_⊎_, inl, inr}
 use Prim.Native.Nat.{ℕ, _+_, _-_, _≤_, _<_}
 use native.Mathlib.Omega.{arith}
 use lib.Dec.{leb}
@@ -18,6 +19,24 @@ le-same {a} {b} {c} {d} f g = go (leb a b) refl (leb c d) refl
     go true e false h = sym (le-leb c d (f (leb-true a b e))) ∙ h
     go false e true h = sym (sym (le-leb a b (g (leb-true c d h))) ∙ e)
     go false e false h = refl
+
+-- one of two ranges ends before the other begins
+abbrev pub Clear : (a q b p : ℕ) → Type 0
+Clear a q b p = (a + q ≤ b) ⊎ (b + p ≤ a)
+
+module _ (a q b p : ℕ) where
+  pub apart-clear : apart a q b p ≡ true → Clear a q b p
+  unfolding apart
+  apart-clear h = go (leb a b) h
+    where
+      go : (c : Bool) → cond c (leb (a + q) b) (leb (b + p) a) ≡ true → Clear a q b p
+      go true h = inl (leb-true _ _ h)
+      go false h = inr (leb-true _ _ h)
+
+  pub clear-apart : 1 ≤ q → 1 ≤ p → Clear a q b p → apart a q b p ≡ true
+  unfolding apart
+  clear-apart some other (inl h) = rw (le-leb a b (omega arith), le-leb (a + q) b h)
+  clear-apart some other (inr h) = rw (lt-leb a b (omega arith), le-leb (b + p) a h)
 
 module _ (a q b p : ℕ) where
   pub apart-up : a ≤ b → leb q (b - a) ≡ apart a q b p

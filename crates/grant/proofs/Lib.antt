@@ -1,4 +1,2 @@
 pub mod Listing
-mod Tallies
-pub mod Outcome
-pub mod Stored
+pub mod RoundTrip

@@ -1,4 +1,2 @@
 pub mod Grant
-pub mod Decision
-pub mod Tally
 pub mod Says

@@ -43,7 +43,7 @@ fn report(log: &[u8], text: &mut [u8; TEXT_ROOM]) {
     let mut l = column();
     let mut r = column();
     let mut q = column();
-    let w = growth::grow(log, &mut id, &mut l, &mut r, &mut q, &mut *text);
+    let w = replay::grow(log, &mut id, &mut l, &mut r, &mut q, &mut *text);
     print(&*text, w);
 }
 

@@ -8,10 +8,11 @@ use Rattle.rules.specs.Answers.{answer}
 use Rattle.request.specs.Entries.{times, Same}
 use Rattle.table.specs.Columns.{Row}
 use Rattle.table.specs.Check.{lengthsBad, soundRows}
-use Rattle.refine.specs.Refine.{groupsOf, lOf, rOf}
-use Rattle.refine.specs.Theorems.{subgroupIn}
+use Rattle.refine.specs.Refine.{groupsOf}
+use Rattle.table.specs.Columns.{lOf, rOf}
+use Rattle.promises.specs.Theorems.{subgroupIn}
 use Rattle.ledger.specs.Ledger.{Ledger, afreshL, afreshR}
-use Rattle.ledger.specs.Calls.{Table, rowsIn}
+use Rattle.table.specs.Columns.{Table, rowsIn}
 
 pub record Agree (t : List Row) (g : Ledger) : Type 0 where
   pub sound : soundRows t ≡ answer t

@@ -15,10 +15,11 @@ use Rattle.request.specs.Reading.{requestOf}
 use Rattle.request.specs.Acceptance.{accepted}
 use Rattle.request.proofs.Accepting.{request-accepted}
 use Rattle.table.specs.Columns.{Row}
-use Rattle.table.specs.Order.{rowOf, orderIn}
+use Rattle.order.specs.Order.{rowOf, orderIn}
 use Rattle.refine.specs.Refine.{groupsOf}
-use Rattle.refine.proofs.Lookup.{rowIn, id-row}
-use Rattle.refine.proofs.Refinement.{by-rows}
+use Rattle.refine.proofs.Lookup.{id-row}
+use Rattle.refine.specs.Refine.{rowIn}
+use Rattle.promises.proofs.Refinement.{by-rows}
 use Rattle.ledger.specs.Ledger.{Ledger, acceptedBy, ledgerOrder}
 use Rattle.ledger.proofs.Agree.{Agree}
 

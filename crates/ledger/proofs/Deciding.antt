@@ -9,8 +9,11 @@ use borrow.Author.Tests.{ne-eqb}
 use Rattle.rules.specs.Answers.{answer}
 use Rattle.rules.proofs.Answers.{then-cond}
 use Rattle.grant.specs.Grant.{Grant, grant, grantBad, grantsBytes, someBad, checkedGrants}
-use Rattle.grant.specs.Decision.{window, windows, appliesTo, dated, questionBad, decided}
-use Rattle.grant.proofs.Stored.{Fits, AllFit, decided-back}
+use Rattle.matching.specs.Matching.{window, windows, appliesTo}
+use Rattle.decide.specs.Dating.{dated}
+use Rattle.decide.specs.Decision.{questionBad, decided}
+use Rattle.grant.proofs.RoundTrip.{Fits, AllFit}
+use Rattle.decide.proofs.RoundTrip.{decided-back}
 use Rattle.ledger.specs.Ledger.{Ledger}
 use Rattle.ledger.specs.Decisions.{GroupGrant, days, groupGrantBad, someGroupGrantBad, appliesBy, ledgerDecided, Each}
 

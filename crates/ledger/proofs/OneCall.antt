@@ -16,15 +16,17 @@ use Rattle.request.specs.Acceptance.{accepted}
 use Rattle.request.proofs.Sums.{same-length}
 use Rattle.table.specs.Columns.{put}
 use Rattle.table.specs.Check.{checked}
-use Rattle.table.specs.Order as table
+use Rattle.order.specs.Order as table
 use Rattle.table.proofs.Rows.{rows-length, rows-put}
 use Rattle.table.proofs.Lengths.{good-count, put-length, put-lengths}
-use Rattle.refine.specs.Refine.{groupsOf, lOf, rOf, refineRows, explodedRows, refined}
-use Rattle.refine.proofs.After.{groups-length}
-use Rattle.refine.proofs.Cutting.{Refining}
-use Rattle.refine.proofs.Refinement.{refining, promised}
+use Rattle.refine.specs.Refine.{groupsOf, refineRows, explodedRows, refined}
+use Rattle.table.specs.Columns.{lOf, rOf}
+use Rattle.refine.proofs.Lookup.{groups-length}
+use Rattle.promises.proofs.Cutting.{Refining}
+use Rattle.promises.proofs.Refinement.{refining, promised}
 use Rattle.ledger.specs.Ledger.{Ledger, acceptedBy, explodedLedger, ledgerRefined, ledgerOrder}
-use Rattle.ledger.specs.Calls.{Call, refine, order, refineSays, orderSays, ledgerReply, ledgerAfter, explodes, Table, rowsIn, engineReply, engineAfter}
+use Rattle.ledger.specs.Calls.{Call, refine, order, refineSays, orderSays, ledgerReply, ledgerAfter, explodes, engineReply, engineAfter}
+use Rattle.table.specs.Columns.{Table, rowsIn}
 use Rattle.ledger.proofs.Agree.{Meets}
 use Rattle.ledger.proofs.Step.{agree-after, unmoved}
 use Rattle.request.proofs.Accepting.{accepted-alike}
@@ -86,8 +88,10 @@ module _ {s : Table} {g : Ledger} (m : Meets s g) (bytes : List ℕ) where
   says-accepted : {q : Request} → acceptedBy g bytes ≡ answer q → engineReply s (refine bytes) ≡ ledgerReply g (refine bytes)
   unfolding engineReply ledgerReply ledgerRefined
   says-accepted {q} e =
+      let t = refineRows q (rowsIn s) in
+      let same = agree-after g (m .agree) (refines-here m bytes e) .table in
       rw (refined-accepted m bytes e, e)
-      (ap (λ n. refineSays (answer n)) (sym (groups-length (refineRows q (rowsIn s))) ∙ same-length (groupsOf (refineRows q (rowsIn s))) (explodedLedger q g .groups) (agree-after g (m .agree) (refines-here m bytes e) .table)))
+      (ap (λ n. refineSays (answer n)) (sym (groups-length t) ∙ same-length (groupsOf t) (explodedLedger q g .groups) same))
 
   says-refused : {n : ℕ} → acceptedBy g bytes ≡ refused n → engineReply s (refine bytes) ≡ ledgerReply g (refine bytes)
   unfolding engineReply ledgerReply ledgerRefined

@@ -13,7 +13,7 @@ use Rattle.request.specs.Request.{Request, entries}
 use Rattle.rules.proofs.Cases.{by-eq}
 use Rattle.request.proofs.Sums.{sum-append}
 use Rattle.request.proofs.Trees.{above-none, none-above}
-use Rattle.refine.specs.Theorems.{IsEntry}
+use Rattle.promises.specs.Theorems.{IsEntry}
 use Rattle.ledger.specs.Ledger.{Ledger, isOther, staysBelow, belowEntries, aboveEntries, itself, byTrees, orderAfter}
 
 -- an id that no entry has stands in no tree

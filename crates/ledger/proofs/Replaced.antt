@@ -10,7 +10,7 @@ use lib.Dec.{eqb}
 use borrow.Author.Tests.{eqb-true, eq-eqb, ne-eqb}
 use Rattle.request.specs.Entries.{Entry, pick, quota, sum, total, times, quotaOf, before}
 use Rattle.request.proofs.Sums.{sum-append, before-left, before-right, before-past, quota-none}
-use Rattle.refine.proofs.Without.{but, sum-none}
+use Rattle.promises.proofs.Without.{but, sum-none}
 use Rattle.ledger.specs.Ledger.{replace}
 
 pub sum-replace : (f : Entry → ℕ) (u : ℕ) (new s : List Entry) → times u s ≡ 1 → sum f (replace u new s) ≡ sum (but u f) s + sum f new

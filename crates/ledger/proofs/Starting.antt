@@ -15,8 +15,8 @@ use Rattle.request.specs.Entries.{pick}
 use Rattle.request.proofs.Numbering.{pick-false}
 use Rattle.table.specs.Columns.{Row, Columns}
 use Rattle.table.specs.Check.{someRow, somePair, valueBad, lengthsBad, soundRows}
-use Rattle.table.specs.Fresh.{freshRows}
-use Rattle.table.specs.Order.{subgroup}
+use Rattle.fresh.specs.Fresh.{freshRows}
+use Rattle.order.specs.Order.{subgroup}
 use Rattle.table.proofs.Rows.{rows-put}
 use Rattle.table.proofs.Lengths.{lengths-good, put-length, put-lengths}
 use Rattle.ledger.specs.Ledger.{freshLedger}

@@ -9,12 +9,13 @@ use Rattle.request.specs.Request.{Request, entries, leftOf, rightOf}
 use Rattle.request.proofs.Sums.{sum-append}
 use Rattle.request.proofs.Trees.{same-left, same-right}
 use Rattle.table.specs.Columns.{Row}
-use Rattle.refine.specs.Refine.{groupsOf, lOf, rOf, refineRows}
-use Rattle.refine.specs.Theorems.{IsEntry, OtherIn, subgroupIn}
-use Rattle.refine.proofs.Without.{but, sum-without, count-without}
-use Rattle.refine.proofs.After.{entry-or-other}
-use Rattle.refine.proofs.Cutting.{Refining, refines}
-use Rattle.refine.proofs.Refinement.{promised}
+use Rattle.refine.specs.Refine.{groupsOf, refineRows}
+use Rattle.table.specs.Columns.{lOf, rOf}
+use Rattle.promises.specs.Theorems.{IsEntry, OtherIn, subgroupIn}
+use Rattle.promises.proofs.Without.{but, sum-without, count-without}
+use Rattle.promises.proofs.After.{entry-or-other}
+use Rattle.promises.proofs.Cutting.{Refining, refines}
+use Rattle.promises.proofs.Refinement.{promised}
 use Rattle.ledger.specs.Ledger.{Ledger, replace, orderAfter, explodedLedger}
 use Rattle.ledger.proofs.Agree.{Agree}
 use Rattle.ledger.proofs.Orders.{Asked, Other, entries-after, entry-other, other-entry, others-after, left-unknown, right-unknown}

@@ -10,15 +10,17 @@ use Rattle.rules.proofs.Bools.{or-none}
 use Rattle.request.specs.Entries.{oneAt, times}
 use Rattle.request.proofs.Sums.{same-length}
 use Rattle.table.specs.Columns.{Columns}
-use Rattle.table.specs.Order.{subgroup}
+use Rattle.order.specs.Order.{subgroup}
 use Rattle.table.proofs.Rows.{rows-length}
-use Rattle.refine.specs.Refine.{groupsOf, lOf, rOf}
-use Rattle.refine.proofs.After.{groups-length}
+use Rattle.refine.specs.Refine.{groupsOf}
+use Rattle.table.specs.Columns.{lOf, rOf}
+use Rattle.refine.proofs.Lookup.{groups-length}
 use Rattle.refine.proofs.Lookup.{l-row, r-row}
-use Rattle.refine.proofs.Soundness.{sound-ids}
+use Rattle.promises.proofs.Soundness.{sound-ids}
 use Rattle.grant.specs.Grant.{Grant}
 use Rattle.ledger.specs.Ledger.{Ledger}
-use Rattle.ledger.specs.Calls.{Call, ledgerAfter, ledgerReplies, ledgerEnd, explodes, explodedIn, Table, rowsIn, engineAfter, engineReplies, engineEnd, engineStart}
+use Rattle.ledger.specs.Calls.{Call, ledgerAfter, ledgerReplies, ledgerEnd, explodes, explodedIn, engineAfter, engineReplies, engineEnd, engineStart}
+use Rattle.table.specs.Columns.{Table, rowsIn}
 use Rattle.ledger.specs.Decisions.{GroupGrant}
 use Rattle.ledger.specs.Demand.{FreshAccepted, ledgerStart, ledger, engine, tableRows, Noted, StoredAs, Demand}
 use Rattle.ledger.proofs.Agree.{Meets}

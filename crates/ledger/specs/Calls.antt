@@ -6,10 +6,10 @@ use lib.Dec.{eqb}
 use lib.ListN.{length}
 use Rattle.rules.specs.Answers.{Answer, answer, refused, then, orElse}
 use Rattle.request.specs.Request.{Request}
-use Rattle.table.specs.Columns.{Row, Columns, rows, counted, afterwards}
-use Rattle.table.specs.Fresh.{freshRows}
-use Rattle.table.specs.Order.{Order}
-use Rattle.table.specs.Order as table
+use Rattle.table.specs.Columns.{Columns, Table, counted, afterwards}
+use Rattle.fresh.specs.Fresh.{freshRows}
+use Rattle.order.specs.Order.{Order}
+use Rattle.order.specs.Order as table
 use Rattle.refine.specs.Refine.{refined}
 use Rattle.ledger.specs.Ledger.{Ledger, acceptedBy, ledgerRefined, ledgerOrder}
 
@@ -54,13 +54,6 @@ explodedIn x g [] = false
 explodedIn x g (k ∷ ks) = explodes x g k || explodedIn x (ledgerAfter g k) ks
 
 -- The engine's side, by the definitions that the calls' contracts cite: `counted` and `afterwards` of `refined`, `order`
-pub record Table : Type 0 where
-  pub columns : Columns
-  pub count : ℕ
-
-abbrev pub rowsIn : Table → List Row
-rowsIn s = rows (s .columns) (s .count)
-
 unfoldable pub engineReply : Table → Call → Reply
 engineReply s (refine bytes) = refineSays (counted (refined (s .columns) (s .count) bytes))
 engineReply s (order a b) = orderSays (table.order (s .columns) (s .count) a b)

@@ -9,14 +9,16 @@ use Rattle.rules.specs.Answers.{answer}
 use Rattle.rules.specs.Limits.{greatest}
 use Rattle.request.specs.Entries.{has, Same}
 use Rattle.table.specs.Columns.{Row, Columns, counted}
-use Rattle.table.specs.Fresh.{freshRows}
-use Rattle.table.specs.Order as table
-use Rattle.refine.specs.Refine.{groupsOf, lOf, rOf}
+use Rattle.fresh.specs.Fresh.{freshRows}
+use Rattle.order.specs.Order as table
+use Rattle.refine.specs.Refine.{groupsOf}
+use Rattle.table.specs.Columns.{lOf, rOf}
 use Rattle.grant.specs.Grant.{Grant, grant, grantsBytes}
-use Rattle.grant.specs.Decision.{decided}
+use Rattle.decide.specs.Decision.{decided}
 use Rattle.ledger.specs.Ledger.{Ledger, freshLedger, ledgerOrder, afreshL, afreshR}
 use Rattle.ledger.specs.Decisions.{GroupGrant, ledgerDecided, Each}
-use Rattle.ledger.specs.Calls.{Call, ledgerReplies, ledgerEnd, explodedIn, Table, rowsIn, engineReplies, engineEnd, engineStart}
+use Rattle.ledger.specs.Calls.{Call, ledgerReplies, ledgerEnd, explodedIn, engineReplies, engineEnd, engineStart}
+use Rattle.table.specs.Columns.{Table, rowsIn}
 
 -- fresh was accepted: it answered the count 1. A quota is a 32-bit number
 pub record FreshAccepted (c : Columns) (id quota : ℕ) : Type 0 where

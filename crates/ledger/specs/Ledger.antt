@@ -10,7 +10,7 @@ use Rattle.request.specs.Forest.{treeOrder}
 use Rattle.request.specs.Request.{Request, entries, leftOf, rightOf}
 use Rattle.request.specs.Reading.{requestOf}
 use Rattle.request.specs.Acceptance.{accepted}
-use Rattle.table.specs.Order.{Order, orderBy}
+use Rattle.order.specs.Order.{Order, orderBy}
 
 -- State: column length, ids with quotas, an order on the ids, sequences L and R
 pub record Ledger : Type 0 where

@@ -1,5 +1,5 @@
 // Decides on a feature for a pass. Its input, at most 65536 bytes: the numbers feature, l, r and day, then a grant list.
-use grant::Decided;
+use decide::Decided;
 use libc::STDIN_FILENO;
 use libc::STDOUT_FILENO;
 
@@ -40,5 +40,5 @@ fn answer(d: Decided) {
 fn main() {
     let mut input = io::large_buffer();
     let n = io::read_full(STDIN_FILENO, &mut input);
-    answer(grant::question(&input[..n]));
+    answer(decide::question(&input[..n]));
 }

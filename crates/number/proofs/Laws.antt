@@ -12,7 +12,7 @@ use Rattle.rules.specs.Limits.{greatest}
 use Rattle.rules.specs.Buffers.{Bytes}
 use Rattle.rules.proofs.Cases.{by-lt, by-eq}
 use Rattle.rules.proofs.Answers.{same-answer, never-refused}
-use Rattle.number.specs.Number.{Number, found, lastByte, followed, groupsAt, numberAt, groupsOf, bytesOf}
+use Rattle.number.specs.Number.{Number, found, lastByte, followed, bitGroupsAt, numberAt, bitGroupsOf, bytesOf}
 use Rattle.number.proofs.Groups.{short, last, more, fifth, fifth-above, last-only, last-zero, last-positive, followed-found, followed-refused, one-group, more-groups, last-groups, cap, cap-pos}
 
 -- ## Writing, then reading
@@ -28,19 +28,19 @@ last-back false value before positive = last-positive false value (length before
 
 -- a byte that another follows, in front of groups that read back
 more-back : (k value : ℕ) (only : Bool) (before after : List ℕ) → 128 ≤ value
-    → groupsAt k false (before ++ ((value % 128 + 128) ∷ (groupsOf k (value / 128) ++ after))) (length before + 1)
-    ≡ found (value / 128) (length before + 1 + length (groupsOf k (value / 128)))
-    → groupsAt (suc k) only (before ++ ((value % 128 + 128) ∷ (groupsOf k (value / 128) ++ after))) (length before)
-    ≡ found value (length before + suc (length (groupsOf k (value / 128))))
+    → bitGroupsAt k false (before ++ ((value % 128 + 128) ∷ (bitGroupsOf k (value / 128) ++ after))) (length before + 1)
+    ≡ found (value / 128) (length before + 1 + length (bitGroupsOf k (value / 128)))
+    → bitGroupsAt (suc k) only (before ++ ((value % 128 + 128) ∷ (bitGroupsOf k (value / 128) ++ after))) (length before)
+    ≡ found value (length before + suc (length (bitGroupsOf k (value / 128))))
 more-back k value only before after h e =
-    let rest = groupsOf k (value / 128) ++ after in
+    let rest = bitGroupsOf k (value / 128) ++ after in
     let b = value % 128 + 128 in
     let here = getD-append-seam before b rest 0 in
     more (before ++ (b ∷ rest)) (length before) k only (seam-in before b rest) (rw here (omega arith))
     ∙ rw (here, e) (followed-found b (value / 128) _ ∙ ap₂ found (omega arith) (omega arith))
 
 back : (k value : ℕ) (only : Bool) (before after : List ℕ) → value < cap k → (only ≡ false → 1 ≤ value)
-    → groupsAt k only (before ++ (groupsOf k value ++ after)) (length before) ≡ found value (length before + length (groupsOf k value))
+    → bitGroupsAt k only (before ++ (bitGroupsOf k value ++ after)) (length before) ≡ found value (length before + length (bitGroupsOf k value))
 back zero value only before after small positive =
     let here = getD-append-seam before value after 0 in
     rw (last-groups value)
@@ -67,8 +67,8 @@ number-back value before after h = back 4 value true before after (omega arith) 
 record Stands (k : ℕ) (only : Bool) (bytes : List ℕ) (at value next : ℕ) : Type 0 where
   small : value < cap k
   positive : only ≡ false → 1 ≤ value
-  ends : next ≡ at + length (groupsOf k value)
-  groups : drop at bytes ≡ groupsOf k value ++ drop next bytes
+  ends : next ≡ at + length (bitGroupsOf k value)
+  groups : drop at bytes ≡ bitGroupsOf k value ++ drop next bytes
 
 same-found : {v n value next : ℕ} → found v n ≡ found value next → (v ≡ value) × (n ≡ next)
 same-found e = let f = same-answer e in (ap (λ (m : Number). m .value) f, ap (λ (m : Number). m .next) f)
@@ -82,7 +82,7 @@ last-stands k only bytes at {value} {next} h small low e = go only e
     stands-here o positive f =
         let ev = same-found f .0 in
         let en = same-found f .1 in
-        let one : groupsOf k value ≡ value ∷ [] = rw ev at (one-group k (getD bytes at 0) low) in
+        let one : bitGroupsOf k value ≡ value ∷ [] = rw ev at (one-group k (getD bytes at 0) low) in
         let n : next ≡ suc at = omega arith in
         record {
           small = omega arith;
@@ -113,7 +113,7 @@ more-stands k only bytes at {value} {next} bs h l (answer r) ih e =
     let some = i .positive refl in
     let low : value % 128 + 128 ≡ b = omega arith in
     let high : value / 128 ≡ r .value = omega arith in
-    let all : groupsOf (suc k) value ≡ b ∷ groupsOf k (r .value) = more-groups k value (omega arith) ∙ rw (low, high) in
+    let all : bitGroupsOf (suc k) value ≡ b ∷ bitGroupsOf k (r .value) = more-groups k value (omega arith) ∙ rw (low, high) in
     record {
       small = omega (arith, i .small);
       positive = λ _. omega arith;
@@ -121,7 +121,7 @@ more-stands k only bytes at {value} {next} bs h l (answer r) ih e =
       groups = rw (all, ← en) (drop-cons bytes at 0 h ∙ ap (λ (t : List ℕ). b ∷ t) (rw add-one at (i .groups)));
     }
 
-stands : (k : ℕ) (only : Bool) (bytes : List ℕ) (at : ℕ) {value next : ℕ} → Bytes bytes → groupsAt k only bytes at ≡ found value next → Stands k only bytes at value next
+stands : (k : ℕ) (only : Bool) (bytes : List ℕ) (at : ℕ) {value next : ℕ} → Bytes bytes → bitGroupsAt k only bytes at ≡ found value next → Stands k only bytes at value next
 stands zero only bytes at bs e =
     by-lt at (length bytes)
     (λ h. by-lt 15 (getD bytes at 0)
@@ -132,7 +132,7 @@ stands (suc k) only bytes at bs e =
     by-lt at (length bytes)
     (λ h. by-lt (getD bytes at 0) 128
     (λ l. last-stands (suc k) only bytes at h (omega (arith, cap-pos k)) l (sym (last bytes at k only h l) ∙ e))
-    (λ l. more-stands k only bytes at bs h l (groupsAt k false bytes (at + 1)) (λ v m f. stands k false bytes (at + 1) bs f) (sym (more bytes at k only h l) ∙ e)))
+    (λ l. more-stands k only bytes at bs h l (bitGroupsAt k false bytes (at + 1)) (λ v m f. stands k false bytes (at + 1) bs f) (sym (more bytes at k only h l) ∙ e)))
     (λ h. never-refused (sym (short bytes at (suc k) only h) ∙ e))
 
 -- a value that reads in is at most the greatest
@@ -175,7 +175,7 @@ more-in b length at (answer r) ih e =
     let f = same-found (sym (followed-found b (r .value) (r .next)) ∙ e) in
     omega (arith, f .1, ih (r .value) (r .next) refl)
 
-ends-in : (k : ℕ) (only : Bool) (bytes : List ℕ) (at : ℕ) {value next : ℕ} → groupsAt k only bytes at ≡ found value next → (at < next) × (next ≤ length bytes)
+ends-in : (k : ℕ) (only : Bool) (bytes : List ℕ) (at : ℕ) {value next : ℕ} → bitGroupsAt k only bytes at ≡ found value next → (at < next) × (next ≤ length bytes)
 ends-in zero only bytes at e =
     by-lt at (length bytes)
     (λ h. by-lt 15 (getD bytes at 0)
@@ -186,7 +186,7 @@ ends-in (suc k) only bytes at e =
     by-lt at (length bytes)
     (λ h. by-lt (getD bytes at 0) 128
     (λ l. last-in only _ (length bytes) at h (sym (last bytes at k only h l) ∙ e))
-    (λ l. more-in (getD bytes at 0) (length bytes) at (groupsAt k false bytes (at + 1)) (λ v m f. ends-in k false bytes (at + 1) f) (sym (more bytes at k only h l) ∙ e)))
+    (λ l. more-in (getD bytes at 0) (length bytes) at (bitGroupsAt k false bytes (at + 1)) (λ v m f. ends-in k false bytes (at + 1) f) (sym (more bytes at k only h l) ∙ e)))
     (λ h. never-refused (sym (short bytes at (suc k) only h) ∙ e))
 
 -- a number ends after the position where it starts, and within the bytes
@@ -196,7 +196,7 @@ number-ends bytes at e = ends-in 4 true bytes at e
 
 -- ## The bytes of a number
 
-pub groups-count : (k value : ℕ) → (1 ≤ length (groupsOf k value)) × (length (groupsOf k value) ≤ suc k)
+pub groups-count : (k value : ℕ) → (1 ≤ length (bitGroupsOf k value)) × (length (bitGroupsOf k value) ≤ suc k)
 groups-count zero value = rw (last-groups value) (omega arith)
 groups-count (suc k) value =
     by-lt value 128
@@ -216,12 +216,12 @@ more-bytes : (b : ℕ) (bytes : List ℕ) → b < 256 → Bytes bytes → Bytes 
 more-bytes b bytes h bs zero = h
 more-bytes b bytes h bs (suc i) = bs i
 
-groups-bytes : (k value : ℕ) → value < cap k → Bytes (groupsOf k value)
+groups-bytes : (k value : ℕ) → value < cap k → Bytes (bitGroupsOf k value)
 groups-bytes zero value h = rw (last-groups value) (one-byte value (omega arith))
 groups-bytes (suc k) value h =
     by-lt value 128
     (λ l. rw (one-group (suc k) value l) (one-byte value (omega arith)))
-    (λ l. rw (more-groups k value l) (more-bytes (value % 128 + 128) (groupsOf k (value / 128)) (omega arith) (groups-bytes k (value / 128) (omega arith))))
+    (λ l. rw (more-groups k value l) (more-bytes (value % 128 + 128) (bitGroupsOf k (value / 128)) (omega arith) (groups-bytes k (value / 128) (omega arith))))
 
 -- each value up to the greatest has bytes
 pub number-bytes : (value : ℕ) → value ≤ greatest → Bytes (bytesOf value)

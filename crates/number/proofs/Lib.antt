@@ -2,3 +2,4 @@ pub mod Groups
 pub mod Laws
 mod Reading
 mod Writing
+pub mod Runs

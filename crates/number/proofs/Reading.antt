@@ -7,7 +7,7 @@ use native.Mathlib.Nat.{mul-add, mul-assoc, mul-comm, mul-le-mul-right}
 use native.Mathlib.Omega.{arith}
 use lib.ListN.{length, getD}
 use Rattle.rules.specs.Answers.{Answer, answer, refused}
-use Rattle.number.specs.Number.{Number, found, lastByte, above, followed, groupsAt}
+use Rattle.number.specs.Number.{Number, found, lastByte, addedTo, followed, bitGroupsAt}
 use Rattle.number.proofs.Groups.{short, last, more, fifth, fifth-above, last-zero, last-positive}
 
 -- what a group counts for that k others may follow
@@ -17,19 +17,19 @@ unitOf (suc zero) = 2097152
 unitOf (suc (suc zero)) = 16384
 unitOf (suc (suc (suc k))) = 128
 
-above-found : (low unit value next : ℕ) → above low unit (found value next) ≡ found (low + value * unit) next
-unfolding above
-above-found low unit value next = ap (λ p. found (low + p) next) (mul-comm unit value)
+addedTo-found : (low unit value next : ℕ) → addedTo low unit (found value next) ≡ found (low + value * unit) next
+unfolding addedTo
+addedTo-found low unit value next = ap (λ p. found (low + p) next) (mul-comm unit value)
 
-above-refused : (low unit n : ℕ) → above low unit (refused n) ≡ refused n
-unfolding above
-above-refused low unit n = refl
+addedTo-refused : (low unit n : ℕ) → addedTo low unit (refused n) ≡ refused n
+unfolding addedTo
+addedTo-refused low unit n = refl
 
 -- a group taken from what follows
-above-followed : (low unit b : ℕ) (rest : Answer Number) → 128 ≤ b → b < 256 → above low unit (followed b rest) ≡ above (low + (b - 128) * unit) (unit * 128) rest
-unfolding above followed
-above-followed low unit b (refused n) h l = refl
-above-followed low unit b (answer r) h l =
+addedTo-followed : (low unit b : ℕ) (rest : Answer Number) → 128 ≤ b → b < 256 → addedTo low unit (followed b rest) ≡ addedTo (low + (b - 128) * unit) (unit * 128) rest
+unfolding addedTo followed
+addedTo-followed low unit b (refused n) h l = refl
+addedTo-followed low unit b (answer r) h l =
     let group : b % 128 ≡ b - 128 = omega arith in
     let whole : unit * (b % 128 + 128 * r .value) ≡ (b - 128) * unit + unit * 128 * r .value =
     rw (mul-add unit (b % 128) (128 * r .value), group, mul-comm unit (b - 128), mul-assoc unit 128 (r .value)) in
@@ -41,7 +41,7 @@ pub record Later (bytes : List ℕ) (at low i unit sum : ℕ) : Type 0 where
   pub most : more ≤ 3
   pub counts : unit ≡ unitOf more
   pub small : sum < unit
-  pub whole : above sum unit (groupsAt more false bytes i) ≡ above low 128 (groupsAt 3 false bytes at)
+  pub whole : addedTo sum unit (bitGroupsAt more false bytes i) ≡ addedTo low 128 (bitGroupsAt 3 false bytes at)
 
 -- a group after which one more may come
 record Inner (more unit : ℕ) : Type 0 where
@@ -82,21 +82,21 @@ module _ {bytes : List ℕ} {at low i unit sum : ℕ} (l : Later bytes at low i 
   pub unit-low : unit ≤ 2097152
   unit-low = inside .low
 
-  whole-inside : above sum unit (groupsAt (suc (inside .rest)) false bytes i) ≡ above low 128 (groupsAt 3 false bytes at)
+  whole-inside : addedTo sum unit (bitGroupsAt (suc (inside .rest)) false bytes i) ≡ addedTo low 128 (bitGroupsAt 3 false bytes at)
   whole-inside = rw (inside .one-more) at (l .whole)
 
-  pub cut : length bytes ≤ i → refused 1 ≡ above low 128 (groupsAt 3 false bytes at)
-  cut n = sym (ap (above sum unit) (short bytes i (suc (inside .rest)) false n) ∙ above-refused sum unit 1) ∙ whole-inside
+  pub cut : length bytes ≤ i → refused 1 ≡ addedTo low 128 (bitGroupsAt 3 false bytes at)
+  cut n = sym (ap (addedTo sum unit) (short bytes i (suc (inside .rest)) false n) ∙ addedTo-refused sum unit 1) ∙ whole-inside
 
-  pub zero-last : i < length bytes → getD bytes i 0 ≡ 0 → refused 2 ≡ above low 128 (groupsAt 3 false bytes at)
+  pub zero-last : i < length bytes → getD bytes i 0 ≡ 0 → refused 2 ≡ addedTo low 128 (bitGroupsAt 3 false bytes at)
   zero-last n z =
-      sym (ap (above sum unit) (last bytes i (inside .rest) false n (omega arith) ∙ ap (λ b. lastByte false b i) z ∙ last-zero i) ∙ above-refused sum unit 2)
+      sym (ap (addedTo sum unit) (last bytes i (inside .rest) false n (omega arith) ∙ ap (λ b. lastByte false b i) z ∙ last-zero i) ∙ addedTo-refused sum unit 2)
       ∙ whole-inside
 
   pub ends : i < length bytes → getD bytes i 0 < 128 → (getD bytes i 0 ≡ 0 → ⊥)
-      → found (sum + getD bytes i 0 * unit) (i + 1) ≡ above low 128 (groupsAt 3 false bytes at)
+      → found (sum + getD bytes i 0 * unit) (i + 1) ≡ addedTo low 128 (bitGroupsAt 3 false bytes at)
   ends n b z =
-      sym (ap (above sum unit) (last bytes i (inside .rest) false n b ∙ last-positive false (getD bytes i 0) i z) ∙ above-found sum unit (getD bytes i 0) (i + 1))
+      sym (ap (addedTo sum unit) (last bytes i (inside .rest) false n b ∙ last-positive false (getD bytes i 0) i z) ∙ addedTo-found sum unit (getD bytes i 0) (i + 1))
       ∙ whole-inside
 
   pub goes-on : i < length bytes → 128 ≤ getD bytes i 0 → getD bytes i 0 < 256
@@ -110,8 +110,8 @@ module _ {bytes : List ℕ} {at low i unit sum : ℕ} (l : Later bytes at low i 
         most = omega arith;
         counts = inside .counts;
         small = w .1;
-        whole = sym (above-followed sum unit (getD bytes i 0) (groupsAt (inside .rest) false bytes (i + 1)) b f)
-            ∙ sym (ap (above sum unit) (more bytes i (inside .rest) false n b)) ∙ whole-inside;
+        whole = sym (addedTo-followed sum unit (getD bytes i 0) (bitGroupsAt (inside .rest) false bytes (i + 1)) b f)
+            ∙ sym (ap (addedTo sum unit) (more bytes i (inside .rest) false n b)) ∙ whole-inside;
       }
 
 module _ {bytes : List ℕ} {at low i unit sum : ℕ} (l : Later bytes at low i unit sum) (h : 268435456 ≤ unit) where
@@ -124,21 +124,21 @@ module _ {bytes : List ℕ} {at low i unit sum : ℕ} (l : Later bytes at low i 
   pub fifth-small : sum < 268435456
   fifth-small = omega (arith, l .small, unit-fifth)
 
-  pub fifth-whole : above sum 268435456 (groupsAt 0 false bytes i) ≡ above low 128 (groupsAt 3 false bytes at)
+  pub fifth-whole : addedTo sum 268435456 (bitGroupsAt 0 false bytes i) ≡ addedTo low 128 (bitGroupsAt 3 false bytes at)
   fifth-whole = rw (unit-fifth, at-fifth) at (l .whole)
 
 module _ (bytes : List ℕ) (at low : ℕ) where
-  pub fifth-cut : length bytes ≤ at → refused 1 ≡ above low 268435456 (groupsAt 0 false bytes at)
-  fifth-cut n = sym (ap (above low 268435456) (short bytes at 0 false n) ∙ above-refused low 268435456 1)
+  pub fifth-cut : length bytes ≤ at → refused 1 ≡ addedTo low 268435456 (bitGroupsAt 0 false bytes at)
+  fifth-cut n = sym (ap (addedTo low 268435456) (short bytes at 0 false n) ∙ addedTo-refused low 268435456 1)
 
-  pub fifth-great : at < length bytes → 15 < getD bytes at 0 → refused 2 ≡ above low 268435456 (groupsAt 0 false bytes at)
-  fifth-great n b = sym (ap (above low 268435456) (fifth-above bytes at false n b) ∙ above-refused low 268435456 2)
+  pub fifth-great : at < length bytes → 15 < getD bytes at 0 → refused 2 ≡ addedTo low 268435456 (bitGroupsAt 0 false bytes at)
+  fifth-great n b = sym (ap (addedTo low 268435456) (fifth-above bytes at false n b) ∙ addedTo-refused low 268435456 2)
 
-  pub fifth-zero : at < length bytes → getD bytes at 0 ≡ 0 → refused 2 ≡ above low 268435456 (groupsAt 0 false bytes at)
+  pub fifth-zero : at < length bytes → getD bytes at 0 ≡ 0 → refused 2 ≡ addedTo low 268435456 (bitGroupsAt 0 false bytes at)
   fifth-zero n z =
-      sym (ap (above low 268435456) (fifth bytes at false n (omega arith) ∙ ap (λ b. lastByte false b at) z ∙ last-zero at) ∙ above-refused low 268435456 2)
+      sym (ap (addedTo low 268435456) (fifth bytes at false n (omega arith) ∙ ap (λ b. lastByte false b at) z ∙ last-zero at) ∙ addedTo-refused low 268435456 2)
 
   pub fifth-ends : at < length bytes → getD bytes at 0 ≤ 15 → (getD bytes at 0 ≡ 0 → ⊥)
-      → found (low + getD bytes at 0 * 268435456) (at + 1) ≡ above low 268435456 (groupsAt 0 false bytes at)
+      → found (low + getD bytes at 0 * 268435456) (at + 1) ≡ addedTo low 268435456 (bitGroupsAt 0 false bytes at)
   fifth-ends n b z =
-      sym (ap (above low 268435456) (fifth bytes at false n b ∙ last-positive false (getD bytes at 0) at z) ∙ above-found low 268435456 (getD bytes at 0) (at + 1))
+      sym (ap (addedTo low 268435456) (fifth bytes at false n b ∙ last-positive false (getD bytes at 0) at z) ∙ addedTo-found low 268435456 (getD bytes at 0) (at + 1))

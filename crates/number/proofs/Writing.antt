@@ -8,7 +8,7 @@ use lib.ListN.{length, set, length-set}
 use lib.Seq.{sets}
 use Rattle.rules.specs.Buffers.{after}
 use Rattle.rules.proofs.Buffers.{after-all}
-use Rattle.number.specs.Number.{groupsOf, bytesOf}
+use Rattle.number.specs.Number.{bitGroupsOf, bytesOf}
 use Rattle.number.proofs.Groups.{one-group, more-groups, cap}
 use Rattle.number.proofs.Laws.{groups-count}
 
@@ -17,9 +17,9 @@ pub record Writes (buffer₀ : List ℕ) (at value : ℕ) (buffer : List ℕ) (i
   pub more : ℕ
   pub small : left < cap more
   pub same : length buffer ≡ length buffer₀
-  pub stop : i + length (groupsOf more left) ≡ at + length (bytesOf value)
+  pub stop : i + length (bitGroupsOf more left) ≡ at + length (bytesOf value)
   pub room : at + length (bytesOf value) ≤ length buffer₀
-  pub whole : sets buffer i (groupsOf more left) ≡ sets buffer₀ at (bytesOf value)
+  pub whole : sets buffer i (bitGroupsOf more left) ≡ sets buffer₀ at (bytesOf value)
 
 module _ {buffer₀ : List ℕ} {at value : ℕ} where
   pub begins : value < 4294967296 → at + length (bytesOf value) ≤ length buffer₀ → Writes buffer₀ at value buffer₀ at value
@@ -30,8 +30,8 @@ module _ {buffer₀ : List ℕ} {at value : ℕ} where
   pub inside : {buffer : List ℕ} {i left : ℕ} → Writes buffer₀ at value buffer i left → i < length buffer
   inside {left = left} w = omega (arith, groups-count (w .more) left)
 
-  goes : (buffer : List ℕ) (i left k : ℕ) → left < cap k → length buffer ≡ length buffer₀ → i + length (groupsOf k left) ≡ at + length (bytesOf value)
-      → at + length (bytesOf value) ≤ length buffer₀ → sets buffer i (groupsOf k left) ≡ sets buffer₀ at (bytesOf value) → 128 ≤ left
+  goes : (buffer : List ℕ) (i left k : ℕ) → left < cap k → length buffer ≡ length buffer₀ → i + length (bitGroupsOf k left) ≡ at + length (bytesOf value)
+      → at + length (bytesOf value) ≤ length buffer₀ → sets buffer i (bitGroupsOf k left) ≡ sets buffer₀ at (bytesOf value) → 128 ≤ left
       → Writes buffer₀ at value (set buffer i (left % 128 + 128)) (i + 1) (left / 128)
   goes buffer i left zero f s t r d h = absurd (omega arith)
   goes buffer i left (suc k) f s t r d h =

@@ -19,36 +19,33 @@ unfoldable pub lastByte : Bool → ℕ → ℕ → Answer Number
 lastByte only byte at = cond (not only && eqb byte 0) (refused 2) (found byte (at + 1))
 
 -- the number of `low` and what stands above it, of which each one counts for `unit`
-unfoldable pub above : ℕ → ℕ → Answer Number → Answer Number
-above low unit rest = then rest λ n. found (low + unit * n .value) (n .next)
+unfoldable pub addedTo : ℕ → ℕ → Answer Number → Answer Number
+addedTo low unit rest = then rest λ n. found (low + unit * n .value) (n .next)
 
 -- the number whose first byte is `byte`, which another follows: its group is the lowest
 unfoldable pub followed : ℕ → Answer Number → Answer Number
-followed byte rest = above (byte % 128) 128 rest
+followed byte rest = addedTo (byte % 128) 128 rest
+
+-- what the byte at a position leads to. 1: bytes end before the number does
+abbrev pub withByte : List ℕ → ℕ → (ℕ → Answer Number) → Answer Number
+withByte bytes at next = cond (leb (length bytes) at) (refused 1) (next (getD bytes at 0))
 
 -- the number from position `at` on, where `more` bytes may follow the one there, and `only` says that none of the number's bytes stands before it.
--- 1: bytes end before the number does. 2: fifth byte above 15, found as it is read
-unfoldable pub groupsAt : ℕ → Bool → List ℕ → ℕ → Answer Number
-groupsAt zero only bytes at =
-    cond (leb (length bytes) at)
-    (refused 1)
-    (cond (ltb 15 (getD bytes at 0)) (refused 2) (lastByte only (getD bytes at 0) at))
-groupsAt (suc more) only bytes at =
-    cond (leb (length bytes) at)
-    (refused 1)
-    (cond (ltb (getD bytes at 0) 128)
-    (lastByte only (getD bytes at 0) at)
-    (followed (getD bytes at 0) (groupsAt more false bytes (at + 1))))
+-- 2: fifth byte above 15, found as it is read
+unfoldable pub bitGroupsAt : ℕ → Bool → List ℕ → ℕ → Answer Number
+bitGroupsAt zero only bytes at = withByte bytes at λ byte. cond (ltb 15 byte) (refused 2) (lastByte only byte at)
+bitGroupsAt (suc more) only bytes at =
+    withByte bytes at λ byte. cond (ltb byte 128) (lastByte only byte at) (followed byte (bitGroupsAt more false bytes (at + 1)))
 
 -- the number that stands at a position of some bytes: 1 to 5 bytes
 unfoldable pub numberAt : List ℕ → ℕ → Answer Number
-numberAt bytes at = groupsAt 4 true bytes at
+numberAt bytes at = bitGroupsAt 4 true bytes at
 
 -- the groups of a value, where `more` bytes may follow the first
-unfoldable pub groupsOf : ℕ → ℕ → List ℕ
-groupsOf zero value = value ∷ []
-groupsOf (suc more) value = cond (ltb value 128) (value ∷ []) ((value % 128 + 128) ∷ groupsOf more (value / 128))
+unfoldable pub bitGroupsOf : ℕ → ℕ → List ℕ
+bitGroupsOf zero value = value ∷ []
+bitGroupsOf (suc more) value = cond (ltb value 128) (value ∷ []) ((value % 128 + 128) ∷ bitGroupsOf more (value / 128))
 
 -- the bytes of a value up to the greatest, in the shortest form
 unfoldable pub bytesOf : ℕ → List ℕ
-bytesOf value = groupsOf 4 value
+bytesOf value = bitGroupsOf 4 value

@@ -4,7 +4,7 @@ ghost use mathlib.Core.Bool.{false};
 ghost use Prim.Native.Nat.{_<_};
 ghost use lib.ListN.{length};
 ghost use Rattle.rules.specs.Buffers.{written, after};
-ghost use Rattle.number.specs.Number.{numberAt, groupsAt, above, bytesOf};
+ghost use Rattle.number.specs.Number.{numberAt, bitGroupsAt, addedTo, bytesOf};
 ghost use Rattle.number.specs.Says.{drawnSays, writtenSays};
 ghost use Rattle.rules.specs.Lent.{old, new};
 use rules::Refusal;
@@ -43,7 +43,7 @@ pub fn number_at(bytes: &[u8], at: usize) -> Drawn
 // The number whose first group is `low`, and whose other bytes stand from a position on.
 fn later_groups(bytes: &[u8], at: usize, low: u32) -> Drawn
     requires { ⌜ low < 128 ⌝ }
-    ensures { λ r. ⌜ drawnSays r ≡ above low 128 (groupsAt 3 false (old bytes) at) ⌝ }
+    ensures { λ r. ⌜ drawnSays r ≡ addedTo low 128 (bitGroupsAt 3 false (old bytes) at) ⌝ }
 {
     let mut i = at;
     let mut unit: u32 = 128;
@@ -69,7 +69,7 @@ fn later_groups(bytes: &[u8], at: usize, low: u32) -> Drawn
 // The number whose first four groups are `low`, and whose fifth byte stands at a position.
 fn fifth_group(bytes: &[u8], at: usize, low: u32) -> Drawn
     requires { ⌜ low < 268435456 ⌝ }
-    ensures { λ r. ⌜ drawnSays r ≡ above low 268435456 (groupsAt 0 false (old bytes) at) ⌝ }
+    ensures { λ r. ⌜ drawnSays r ≡ addedTo low 268435456 (bitGroupsAt 0 false (old bytes) at) ⌝ }
 {
     if bytes.len() <= at {
         return Drawn::Refused(Refusal::NumberCut);

@@ -1,169 +1,135 @@
 -- The four columns after an accepted request.
-use mathlib.Core.Path.{_≡_, refl, ap, sym, _∙_}
-use mathlib.Core.Bool.{Bool, true, false}
+use mathlib.Core.Path.{_≡_, refl, ap, ap₂, sym, _∙_}
+use mathlib.Core.Bool.{true}
 use mathlib.Core.List.{List, [], _∷_, _++_, map}
 use Prim.Native.Nat.{ℕ, zero, suc, _+_, _-_, _≤_, _<_}
 use native.Mathlib.Omega.{arith}
-use native.Mathlib.Nat.{sub-zero}
-use lib.Dec.{eqb}
-use lib.ListN.{length, getD}
-use borrow.Author.Tests.{eq-eqb, ne-eqb, eqb-true}
+use lib.Dec.{leb}
+use lib.ListN.{length, getD, take, drop, length-append, length-map}
+use lib.Seq.{sets, sets-eq, take-append-seam}
+use borrow.Author.Tests.{le-leb}
 use Rattle.rules.specs.Answers.{answer}
-use Rattle.request.specs.Entries.{Entry, entry, pick, times, quotaOf, before, Distinct}
-use Rattle.request.specs.Numbering.{whole, lefts, rights}
+use Rattle.rules.specs.Limits.{greatest}
+use Rattle.request.specs.Entries.{Entry, quota, quotaAt, oneAt, sum, times, total, entryOf, before, without}
+use Rattle.request.specs.Numbering.{whole, size, lefts, rights}
 use Rattle.request.specs.Request.{Request, entries, leftOf, rightOf}
+use Rattle.request.specs.Reading.{requestOf}
 use Rattle.request.specs.Acceptance.{accepted}
 use Rattle.request.proofs.Accepting.{Accepted, request-accepted}
-use Rattle.request.proofs.Sums.{quota-none}
 use Rattle.request.proofs.Numbering.{size-length, whole-total, lefts-are, rights-are}
-use Rattle.table.specs.Columns.{Row, Columns, columns, rowAt, rowsFrom, rows, put, overlay}
+use Rattle.request.proofs.ReadLaws.{ReadRequest, request-read}
+use Rattle.request.proofs.Sums.{before-within, positive-quota}
+use Rattle.request.proofs.Trees.{same-left, same-right}
+use Rattle.table.specs.Columns.{Row, Columns, columns, rowAt, rows, put, overlay}
 use Rattle.table.specs.Check.{checked}
-use Rattle.table.proofs.Rows.{rows-length}
 use Rattle.table.specs.Sound.{SoundRow}
-use Rattle.table.proofs.Passing.{Passed, check-passed}
+use Rattle.table.proofs.Rows.{rows-length}
+use Rattle.table.specs.Places.{placeOf}
+use Rattle.table.proofs.Places.{place-in}
 use Rattle.table.proofs.Soundness.{check-sound}
-use Rattle.refine.specs.Refine.{groupsOf, lOf, rOf, rowFor, refineRows}
-use Rattle.refine.specs.Placing.{placed, PlaceIn}
-use Rattle.refine.specs.Work.{Work, InWork, Boxed, listed, directionBy}
-use Rattle.refine.proofs.Lookup.{rowIn, l-row, r-row, quota-row, ids-distinct}
-use Rattle.refine.proofs.After.{groups-length}
-use Rattle.refine.proofs.Placement.{count-map, column-after}
-use Rattle.refine.proofs.Entering.{values-within, told-listed, entries-listed, quotas-stand, ids-stand, stored-positive, map-self}
+use Rattle.numbering.specs.Numbered.{leftNumbers, rightNumbers}
+use Rattle.refine.specs.Refine.{groupsOf, rowIn, rowFor, keptRow, keptRows, newRows, refineRows}
+use Rattle.refine.specs.inside.Ids.{timesIn}
+use Rattle.refine.specs.inside.Placing.{placed, placedAll, HasRows, Bounded}
+use Rattle.refine.proofs.Lookup.{groups-length}
+use Rattle.refine.proofs.Placement.{valueAt, value-by-id, without-length, column-after}
+use Rattle.refine.proofs.Accepting.{passed, times-ids, times-rows, place-row, quota-place}
 
--- the numbers of the group that stands first at row i
-module _ (c : Columns) (n x i : ℕ) (p : PlaceIn (c .id) n x i) (h : i < n) where
-  step : (j : ℕ) → j < n → rowsFrom c j (n - j) ≡ rowAt c j ∷ rowsFrom c (suc j) (n - suc j)
-  unfolding rowsFrom
-  step j k = let e : n - j ≡ suc (n - suc j) = omega arith in rw e
+-- what was written to the front of a column
+pub front-sets : (s vs : List ℕ) (n : ℕ) → length vs ≡ n → n ≤ length s → take n (sets s 0 vs) ≡ vs
+front-sets s vs n e h =
+    ap (take n) (sets-eq vs s 0 (omega arith)) ∙ ap (λ m. take m (vs ++ drop (0 + length vs) s)) (sym e) ∙ take-append-seam vs (drop (0 + length vs) s)
 
-  go : (d j : ℕ) → i ≡ j + d → rowIn x (rowsFrom c j (n - j)) ≡ rowAt c i
-  go zero j e =
-      let f : j ≡ i = omega arith in
-      ap (λ k. rowIn x (rowsFrom c k (n - k))) f ∙ ap (rowIn x) (step i h) ∙ rw (eq-eqb x (getD (c .id) i 0) (sym (p .there h)))
-  go (suc d) j e = ap (rowIn x) (step j (omega arith)) ∙ rw (ne-eqb x (getD (c .id) j 0) (λ z. p .before j (omega arith) (sym z))) (go d (suc j) (omega arith))
+-- a bound on what each entry has
+bounded-map : (f : Entry → ℕ) (b : ℕ) (s : List Entry) → ((e : Entry) → 1 ≤ times (e .id) s → f e ≤ b) → (k : ℕ) → k < length (map f s) → getD (map f s) k 0 ≤ b
+bounded-map f b [] h k m = absurd (omega arith)
+bounded-map f b (e ∷ s) h zero m = h e (Rattle.request.proofs.Sums.count-head (e .id) s)
+bounded-map f b (e ∷ s) h (suc k) m = bounded-map f b s (λ x i. h x (omega arith)) k (omega arith)
 
-  row-at : rowIn x (rows c n) ≡ rowAt c i
-  row-at = rw sub-zero at (go i 0 (omega arith))
+-- one row goes, and those of the entries come
+pub refined-length : (a : Request) (t : List Row) → times (a .exploded) (entries a) ≡ 1 → length (refineRows a t) + 1 ≡ length t + length (entries a)
+unfolding refineRows
+refined-length a t once =
+    omega (arith, length-append (keptRows a t) (newRows a t), length-map t (λ (w : Row). keptRow a w), length-map (without (a .exploded) (entries a)) (rowFor a (rowIn (a .exploded) t)), without-length (a .exploded) (entries a) once)
 
-  pub l-at : lOf x (rows c n) ≡ getD (c .l) i 0
-  l-at = l-row x (rows c n) ∙ ap (λ (w : Row). w .l) row-at
-
-  pub r-at : rOf x (rows c n) ≡ getD (c .r) i 0
-  r-at = r-row x (rows c n) ∙ ap (λ (w : Row). w .r) row-at
-
-  pub quota-at : Distinct (groupsOf (rows c n)) → quotaOf x (groupsOf (rows c n)) ≡ getD (c .q) i 0
-  quota-at d = quota-row x (rows c n) (d x) ∙ ap (λ (w : Row). w .q) row-at
-
--- the value at the id u, where it goes by the id
-by-head : (g : ℕ → ℕ) (u : ℕ) (e : Entry) (s : List Entry) (b : Bool) → eqb u (e .id) ≡ b
-    → (times u s ≡ 1 → quotaOf u (map (λ e. entry (e .id) (g (e .id))) s) ≡ g u) → pick b 1 0 + times u s ≡ 1
-    → pick b (g (e .id)) 0 + quotaOf u (map (λ e. entry (e .id) (g (e .id))) s) ≡ g u
-by-head g u e s true f ih h = let v : e .id ≡ u = sym (eqb-true u (e .id) f) in omega (arith, quota-none u (map (λ e. entry (e .id) (g (e .id))) s) (count-map (λ e. g (e .id)) u s ∙ omega arith), ap g v)
-by-head g u e s false f ih h = omega (arith, ih (omega arith))
-
-quota-by-id : (g : ℕ → ℕ) (u : ℕ) (s : List Entry) → times u s ≡ 1 → quotaOf u (map (λ e. entry (e .id) (g (e .id))) s) ≡ g u
-quota-by-id g u [] h = absurd (omega arith)
-quota-by-id g u (e ∷ s) h = by-head g u e s (eqb u (e .id)) refl (quota-by-id g u s) h
-
--- how often an id comes does not hang on the values
-pub count-any : (x : ℕ) (ids v v′ : List ℕ) (at n : ℕ) → times x (listed ids v at n) ≡ times x (listed ids v′ at n)
-count-any x ids v v′ at zero = refl
-count-any x ids v v′ at (suc n) = ap (λ k. pick (eqb x (getD ids at 0)) 1 0 + k) (count-any x ids v v′ (suc at) n)
-
--- everything that is known of an accepted request and the columns
-module _ (c : Columns) (n u own : ℕ) (a : Request) (w : Work) (up : Bool) (m s : ℕ) (told : InWork w u up m s a)
-    (good : checked c n ≡ answer (rows c n)) (ok : accepted (length (c .id)) (groupsOf (rows c n)) a ≡ answer a) (p : PlaceIn (c .id) n u own) (h : own < n) where
-  pub passed : Passed c n
-  passed = check-passed c n good .0
-
-  pub taken : Accepted (length (c .id)) (groupsOf (rows c n)) a
+-- an accepted request and the columns
+module _ (c : Columns) (n : ℕ) (good : checked c n ≡ answer (rows c n)) (bytes : List ℕ) {a : Request} (is : requestOf bytes ≡ answer a)
+    (ok : accepted (length (c .id)) (groupsOf (rows c n)) a ≡ answer a) where
+  taken : Accepted (length (c .id)) (groupsOf (rows c n)) a
   taken = request-accepted (length (c .id)) (groupsOf (rows c n)) a ok .0
 
-  once : times u (entries a) ≡ 1
-  once = ap (λ x. times x (entries a)) (told .exploded-is) ∙ taken .once
+  read : ReadRequest a
+  read = request-read bytes is
 
-  pub entries-count : m ≡ length (entries a)
-  entries-count = told .entries-are ∙ size-length (a .trees)
+  abbrev own : ℕ
+  own = placeOf (c .id) n (a .exploded)
 
-  pub room : n + length (entries a) ≤ length (c .id) + 1
+  abbrev ids : List ℕ
+  ids = map (λ (e : Entry). e .id) (entries a)
+
+  room : n + length (entries a) ≤ length (c .id) + 1
   room = omega (arith, taken .fits, groups-length (rows c n), rows-length c 0 n)
 
-  -- the entries with their ids, and with any values
-  ids-listed : listed (w .ids) (w .ids) 0 m ≡ map (λ e. entry (e .id) (e .id)) (entries a)
-  ids-listed = told-listed told (w .ids) (λ e. e .id) (ids-stand w 0 (a .trees) (told .stored))
+  pub rows-counted : length (refineRows a (rows c n)) ≡ n + length (entries a) - 1
+  rows-counted = omega (arith, refined-length a (rows c n) (taken .once), rows-length c 0 n)
 
-  quotas-listed : listed (w .ids) (w .quotas) 0 m ≡ map (λ e. entry (e .id) (e .quota)) (entries a)
-  quotas-listed = told-listed told (w .quotas) (λ e. e .quota) (quotas-stand w 0 (a .trees) (told .stored))
+  module _ (inside : own < n) where
+    row-is : rowIn (a .exploded) (rows c n) ≡ rowAt c own
+    row-is = place-row c n good (a .exploded) inside
 
-  pub once-listed : (v : List ℕ) → times u (listed (w .ids) v 0 m) ≡ 1
-  once-listed v = count-any u (w .ids) v (w .quotas) 0 m ∙ ap (times u) (entries-listed told) ∙ once
+    -- the entries fill the exploded group's box
+    fills : total (entries a) ≡ getD (c .q) own 0
+    fills = taken .whole ∙ quota-place c n good (a .exploded) inside
 
-  -- the numbers that the walk gave out, in front of what else the work column has
-  module _ (nl rest : List ℕ) (e : nl ≡ lefts (directionBy up) (getD (c .l) own 0) (a .trees) ++ rest) where
-    l-listed : listed (w .ids) nl 0 m ≡ map (λ e. entry (e .id) (getD (c .l) own 0 + before (e .id) (leftOf a))) (entries a)
-    l-listed =
-        told-listed told nl (λ e. getD (c .l) own 0 + before (e .id) (leftOf a))
-        (rw (e, told .direction-is, lefts-are (a .direction) (getD (c .l) own 0) (a .trees) (stored-positive w 0 (a .trees) (told .stored)) (taken .single)) (values-within [] (map (λ e. getD (c .l) own 0 + before (e .id) (leftOf a)) (entries a)) rest))
+    sound : SoundRow (rowAt c own)
+    sound = check-sound c n good .row own inside
 
-  module _ (nr rest : List ℕ) (e : nr ≡ rights (directionBy up) (getD (c .r) own 0) (a .trees) ++ rest) where
-    r-listed : listed (w .ids) nr 0 m ≡ map (λ e. entry (e .id) (getD (c .r) own 0 + before (e .id) (rightOf a))) (entries a)
-    r-listed =
-        told-listed told nr (λ e. getD (c .r) own 0 + before (e .id) (rightOf a))
-        (rw (e, told .direction-is, rights-are (a .direction) (getD (c .r) own 0) (a .trees) (stored-positive w 0 (a .trees) (told .stored)) (taken .single)) (values-within [] (map (λ e. getD (c .r) own 0 + before (e .id) (rightOf a)) (entries a)) rest))
+    small : whole (a .trees) ≤ greatest
+    small = omega (arith, whole-total (a .trees), fills, sound .l-end, sound .l-some)
 
-  l-old : lOf (a .exploded) (rows c n) ≡ getD (c .l) own 0
-  l-old = ap (λ x. lOf x (rows c n)) (sym (told .exploded-is)) ∙ l-at c n u own p h
+    -- what the walk gave out
+    pub left-numbers : leftNumbers (requestOf bytes) ≡ map (λ e. 0 + before (e .id) (leftOf a)) (entries a)
+    left-numbers = rw (is, le-leb (whole (a .trees)) greatest small) (lefts-are (a .direction) 0 (a .trees) (read .positive) (taken .single))
 
-  r-old : rOf (a .exploded) (rows c n) ≡ getD (c .r) own 0
-  r-old = ap (λ x. rOf x (rows c n)) (sym (told .exploded-is)) ∙ r-at c n u own p h
+    pub right-numbers : rightNumbers (requestOf bytes) ≡ map (λ e. 0 + before (e .id) (rightOf a)) (entries a)
+    right-numbers = rw (is, le-leb (whole (a .trees)) greatest small) (rights-are (a .direction) 0 (a .trees) (read .positive) (taken .single))
 
-  column : (of : Row → ℕ) (col : List ℕ) → length col ≡ length (c .id) → ((k : ℕ) → of (rowAt c k) ≡ getD col k 0) → (f : Entry → ℕ)
-      → ((e : Entry) → of (rowFor a (lOf (a .exploded) (rows c n)) (rOf (a .exploded) (rows c n)) e) ≡ f e)
-      → of (rowFor a (getD (c .l) own 0) (getD (c .r) own 0) (entry (a .exploded) (quotaOf (a .exploded) (entries a)))) ≡ quotaOf u (map (λ e. entry (e .id) (f e)) (entries a))
-      → placed u own n (map (λ e. entry (e .id) (f e)) (entries a)) col ≡ overlay (map of (refineRows a (rows c n))) col
-  column of col e reads f others own-row =
-      column-after c n u own a (told .exploded-is) (p .there h) h (passed .good .ids) once of col (let r = room in omega arith) reads f others own-row
+    -- an entry's numbers lie in the box
+    pub left-bounded : Bounded (getD (c .l) own 0) (map (λ e. 0 + before (e .id) (leftOf a)) (entries a))
+    left-bounded k m =
+        let same = same-left (a .direction) (a .trees) in
+        let b = bounded-map (λ e. 0 + before (e .id) (leftOf a)) (greatest - getD (c .l) own 0) (entries a)
+        (λ e i. omega (arith, before-within (e .id) (leftOf a) (omega (arith, same (oneAt (e .id)))), same (quotaAt (e .id)), same quota, positive-quota (e .id) (entries a) (read .positive), fills, sound .l-end)) k m in
+        omega (arith, b, sound .l-end, sound .q-some)
 
-  -- the columns that the code leaves
-  pub columns-after : (nl nr rest rest′ : List ℕ) → nl ≡ lefts (directionBy up) (getD (c .l) own 0) (a .trees) ++ rest → nr ≡ rights (directionBy up) (getD (c .r) own 0) (a .trees) ++ rest′
-      → columns (placed u own n (listed (w .ids) (w .ids) 0 m) (c .id)) (placed u own n (listed (w .ids) nl 0 m) (c .l)) (placed u own n (listed (w .ids) nr 0 m) (c .r)) (placed u own n (listed (w .ids) (w .quotas) 0 m) (c .q))
-      ≡ put (refineRows a (rows c n)) c
-  unfolding put
-  columns-after nl nr rest rest′ el er =
-      let lens = passed .lengths in
-      let ci = ap (λ x. placed u own n x (c .id)) ids-listed ∙ column (λ w. w .id) (c .id) refl (λ k. refl) (λ e. e .id) (λ e. refl) (sym (quota-by-id (λ x. x) u (entries a) once ∙ told .exploded-is)) in
-      let cl = ap (λ x. placed u own n x (c .l)) (l-listed nl rest el)
-      ∙ column (λ w. w .l) (c .l) (lens .in-l) (λ k. refl) (λ e. getD (c .l) own 0 + before (e .id) (leftOf a)) (λ e. ap (λ x. x + before (e .id) (leftOf a)) l-old)
-      (sym (quota-by-id (λ x. getD (c .l) own 0 + before x (leftOf a)) u (entries a) once ∙ ap (λ x. getD (c .l) own 0 + before x (leftOf a)) (told .exploded-is))) in
-      let cr = ap (λ x. placed u own n x (c .r)) (r-listed nr rest′ er)
-      ∙ column (λ w. w .r) (c .r) (lens .in-r) (λ k. refl) (λ e. getD (c .r) own 0 + before (e .id) (rightOf a)) (λ e. ap (λ x. x + before (e .id) (rightOf a)) r-old)
-      (sym (quota-by-id (λ x. getD (c .r) own 0 + before x (rightOf a)) u (entries a) once ∙ ap (λ x. getD (c .r) own 0 + before x (rightOf a)) (told .exploded-is))) in
-      let cq = ap (λ x. placed u own n x (c .q)) quotas-listed
-      ∙ column (λ w. w .q) (c .q) (lens .in-q) (λ k. refl) (λ e. e .quota) (λ e. refl) (ap (λ x. quotaOf x (entries a)) (sym (told .exploded-is)) ∙ ap (quotaOf u) (sym (map-self (entries a)))) in
-      rw (ci, cl, cr, cq)
+    pub right-bounded : Bounded (getD (c .r) own 0) (map (λ e. 0 + before (e .id) (rightOf a)) (entries a))
+    right-bounded k m =
+        let same = same-right (a .direction) (a .trees) in
+        let b = bounded-map (λ e. 0 + before (e .id) (rightOf a)) (greatest - getD (c .r) own 0) (entries a)
+        (λ e i. omega (arith, before-within (e .id) (rightOf a) (omega (arith, same (oneAt (e .id)))), same (quotaAt (e .id)), same quota, positive-quota (e .id) (entries a) (read .positive), fills, sound .r-end)) k m in
+        omega (arith, b, sound .r-end, sound .q-some)
 
-  -- the entries fill the exploded group's box
-  pub filled : whole (a .trees) ≡ getD (c .q) own 0
-  filled =
-      whole-total (a .trees)
-      ∙ taken .whole
-      ∙ ap (λ x. quotaOf x (groupsOf (rows c n))) (sym (told .exploded-is))
-      ∙ quota-at c n u own p h (ids-distinct (rows c n) (passed .good .ids))
+    pub has-rows : HasRows (a .exploded) own n ids (c .id)
+    has-rows = (inside, omega (arith, room, length-map (entries a) (λ (e : Entry). e .id), sym (times-ids (a .exploded) (entries a)), taken .once))
 
-  -- what the walk asks
-  pub boxed : (nl nr : List ℕ) → length nl ≡ m → length nr ≡ m → Boxed w 0 m (getD (c .l) own 0) (getD (c .r) own 0) (getD (c .q) own 0) nl nr (a .trees)
-  boxed nl nr el er =
-      let sound = own-sound in
-      let e = told .entries-are in
-      record {
-        stored = told .stored;
-        ends-at = omega arith;
-        fits = filled;
-        l-end = let z = sound .l-end in let y = sound .l-some in let x = sound .q-some in omega arith;
-        r-end = let z = sound .r-end in let y = sound .r-some in let x = sound .q-some in omega arith;
-        l-part = el ∙ e;
-        r-part = er ∙ e;
-      }
-    where
-      own-sound : SoundRow (rowAt c own)
-      own-sound = check-sound c n good .row own h
+    column : (of : Row → ℕ) (col : List ℕ) → length col ≡ length (c .id) → ((k : ℕ) → of (rowAt c k) ≡ getD col k 0) → (base : ℕ) (f : Entry → ℕ)
+        → ((e : Entry) → of (rowFor a (rowIn (a .exploded) (rows c n)) e) ≡ base + f e)
+        → of (rowFor a (rowAt c own) (entryOf (a .exploded) (entries a))) ≡ base + sum (valueAt (a .exploded) f) (entries a)
+        → placed (a .exploded) own n base ids (map f (entries a)) col ≡ overlay (map of (refineRows a (rows c n))) col
+    column of col e reads base f others own-row =
+        column-after c n own a (place-in (c .id) n (a .exploded) (passed c n good .most) .there inside) inside (passed c n good .good .ids) (taken .once) of col (omega (arith, room, e)) reads base f others own-row
+
+    -- the columns that the code leaves
+    pub columns-after : (m : ℕ) (w s l r : List ℕ) → take m w ≡ ids → take m s ≡ map quota (entries a) → take m l ≡ map (λ e. 0 + before (e .id) (leftOf a)) (entries a)
+        → take m r ≡ map (λ e. 0 + before (e .id) (rightOf a)) (entries a) → placedAll (a .exploded) own n m w s l r c ≡ put (refineRows a (rows c n)) c
+    unfolding put
+    columns-after m w s l r ew es el er =
+        let lens = passed c n good .lengths in
+        let u = a .exploded in
+        let byL = value-by-id (λ x. 0 + before x (leftOf a)) u (entries a) (taken .once) in
+        let byR = value-by-id (λ x. 0 + before x (rightOf a)) u (entries a) (taken .once) in
+        let ci = column (λ w. w .id) (c .id) refl (λ k. refl) 0 (λ e. e .id) (λ e. omega arith) (omega (arith, value-by-id (λ x. x) u (entries a) (taken .once))) in
+        let cl = column (λ w. w .l) (c .l) (lens .in-l) (λ k. refl) (getD (c .l) own 0) (λ e. 0 + before (e .id) (leftOf a)) (λ e. rw row-is (omega arith)) (omega (arith, byL)) in
+        let cr = column (λ w. w .r) (c .r) (lens .in-r) (λ k. refl) (getD (c .r) own 0) (λ e. 0 + before (e .id) (rightOf a)) (λ e. rw row-is (omega arith)) (omega (arith, byR)) in
+        let cq = column (λ w. w .q) (c .q) (lens .in-q) (λ k. refl) 0 quota (λ e. omega arith) (omega arith) in
+        rw (ew, es, el, er, ci, cl, cr, cq)

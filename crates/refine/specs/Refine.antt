@@ -5,38 +5,40 @@ use Prim.Native.Nat.{ℕ, _+_}
 use lib.Dec.{eqb}
 use lib.ListN.{length}
 use Rattle.rules.specs.Answers.{Answer, answer, then}
-use Rattle.request.specs.Entries.{Entry, entry, pick, quotaOf, before, without}
+use Rattle.request.specs.Entries.{Entry, entry, entryOf, quota, before, without}
 use Rattle.request.specs.Request.{Request, entries, leftOf, rightOf}
 use Rattle.request.specs.Reading.{requestOf}
 use Rattle.request.specs.Acceptance.{accepted}
-use Rattle.table.specs.Columns.{Row, Columns}
+use Rattle.table.specs.Columns.{Row, Columns, lowL, lowR, sizeOf}
 use Rattle.table.specs.Check.{checked}
 
--- the groups of some rows: ids with quotas
+-- a row's group: its id and its quota
+abbrev pub groupOf : Row → Entry
+groupOf w = entry (w .id) (sizeOf w)
+
 abbrev pub groupsOf : List Row → List Entry
-groupsOf t = map (λ w. entry (w .id) (w .q)) t
+groupsOf t = map (λ w. groupOf w) t
 
--- the l and the r of the group x (0 where it is not there)
-abbrev pub lOf : ℕ → List Row → ℕ
-lOf x [] = 0
-lOf x (w ∷ t) = pick (eqb x (w .id)) (w .l) (lOf x t)
+-- the row of the group x (zeros where it is not there)
+abbrev pub rowIn : ℕ → List Row → Row
+rowIn x [] = record { id = 0; l = 0; r = 0; q = 0 }
+rowIn x (w ∷ t) = cond (eqb x (w .id)) w (rowIn x t)
 
-abbrev pub rOf : ℕ → List Row → ℕ
-rOf x [] = 0
-rOf x (w ∷ t) = pick (eqb x (w .id)) (w .r) (rOf x t)
-
--- the row of an entry: new l = old l of the exploded group + quotas before the entry in L; new r likewise with R
-abbrev pub rowFor : Request → (l r : ℕ) → Entry → Row
-rowFor q l r e = record { id = e .id; l = l + before (e .id) (leftOf q); r = r + before (e .id) (rightOf q); q = e .quota }
+-- the row of an entry, w being that of the exploded group: new l = old l of the exploded group + quotas before the entry in L; new r
+-- likewise with R
+abbrev pub rowFor : Request → Row → Entry → Row
+rowFor q w e = record { id = e .id; l = lowL w + before (e .id) (leftOf q); r = lowR w + before (e .id) (rightOf q); q = quota e }
 
 -- the exploded id keeps its row
+abbrev pub keptRow : Request → Row → Row
+keptRow q w = cond (eqb (q .exploded) (w .id)) (rowFor q w (entryOf (q .exploded) (entries q))) w
+
 abbrev pub keptRows : Request → List Row → List Row
-keptRows q t =
-    map (λ w. cond (eqb (q .exploded) (w .id)) (rowFor q (w .l) (w .r) (entry (q .exploded) (quotaOf (q .exploded) (entries q)))) w) t
+keptRows q t = map (λ w. keptRow q w) t
 
 -- the other entries take the next rows in the request's order
 abbrev pub newRows : Request → List Row → List Row
-newRows q t = map (rowFor q (lOf (q .exploded) t) (rOf (q .exploded) t)) (without (q .exploded) (entries q))
+newRows q t = map (rowFor q (rowIn (q .exploded) t)) (without (q .exploded) (entries q))
 
 unfoldable pub refineRows : Request → List Row → List Row
 refineRows q t = keptRows q t ++ newRows q t

@@ -1,62 +1,32 @@
-// Entries against columns: where an id stands, how often, and writing the entries' values into one column.
+// The rows of an accepted request, written column by column.
 ghost use mathlib.Core.Path.{_≡_};
-ghost use mathlib.Core.List.{List};
-ghost use Prim.Native.Nat.{ℕ, _+_, _≤_, _<_};
-ghost use lib.ListN.{length};
-ghost use Rattle.request.specs.Entries.{times};
-ghost use Rattle.refine.specs.Placing.{placed, PlaceIn};
-ghost use Rattle.refine.specs.Work.{listed};
+ghost use Prim.Native.Nat.{_≤_};
+ghost use lib.ListN.{length, getD, take};
 ghost use Rattle.rules.specs.Lent.{old, new};
+ghost use Rattle.table.specs.Lent.{oldColumns, newColumns};
+ghost use Rattle.refine.specs.inside.Placing.{placed, placedAll, HasRows, Bounded};
 
-// Where x stands first among the first n of a column, or n.
-pub(crate) fn place_of(column: &[u32], n: usize, x: u32) -> usize
-    requires { ⌜ n ≤ length (now column) ⌝ }
-    ensures { λ i. ⌜ PlaceIn (old column) n x i ⌝ }
-{
-    let mut i = 0;
-    while i < n {
-        if column[i] == x {
-            return i;
-        }
-        i += 1;
-    }
-    i
-}
-
-// How often x stands among the first n of a column.
-pub(crate) fn times(column: &[u32], n: usize, x: u32) -> usize
-    requires { ⌜ n ≤ length (now column) ⌝ }
-    ensures { λ k. ⌜ ((values : List ℕ) → k ≡ times x (listed (old column) values 0 n)) ⌝ }
-{
-    let mut k = 0;
-    let mut i = 0;
-    while i < n {
-        if column[i] == x {
-            k += 1;
-        }
-        i += 1;
-    }
-    k
-}
-
-// Writes the entries' values into one column: that of the exploded id at row `own`, the others at the rows from `next` on.
-pub(crate) fn place(
+// Writes the entries' values, with `base` added, into one column: that of the exploded id at row `own`, the others at the rows from
+// `next` on.
+fn place(
     column: &mut [u32],
     own: usize,
     next: usize,
     exploded: u32,
+    base: u32,
     ids: &[u32],
     values: &[u32],
     entries: usize,
 )
     requires { ⌜ (entries ≤ length (now ids)) × (entries ≤ length (now values)) ⌝ }
-    requires { ⌜ (own < next) × (next + entries ≤ length (now column) + times exploded (listed (now ids) (now values) 0 entries)) ⌝ }
-    ensures { λ _. ⌜ new column ≡ placed exploded own next (listed (old ids) (old values) 0 entries) (old column) ⌝ }
+    requires { ⌜ HasRows exploded own next (take entries (now ids)) (now column) ⌝ }
+    requires { ⌜ Bounded base (take entries (now values)) ⌝ }
+    ensures { λ _. ⌜ new column ≡ placed exploded own next base (take entries (old ids)) (take entries (old values)) (old column) ⌝ }
 {
     let mut row = next;
     let mut i = 0;
     while i < entries {
-        let value = values[i];
+        let value = base + values[i];
         if ids[i] == exploded {
             column[own] = value;
         } else {
@@ -65,4 +35,33 @@ pub(crate) fn place(
         }
         i += 1;
     }
+}
+
+// Writes the entries into all four columns; `before_l` and `before_r` are the quotas before each in L and in R.
+pub(crate) fn place_entries(
+    id: &mut [u32],
+    l: &mut [u32],
+    r: &mut [u32],
+    q: &mut [u32],
+    own: usize,
+    next: usize,
+    exploded: u32,
+    ids: &[u32],
+    quotas: &[u32],
+    before_l: &[u32],
+    before_r: &[u32],
+    entries: usize,
+)
+    requires { ⌜ (entries ≤ length (now ids)) × (entries ≤ length (now quotas)) × (entries ≤ length (now «before_l»)) × (entries ≤ length (now «before_r»)) ⌝ }
+    requires { ⌜ (length (now l) ≡ length (now id)) × (length (now r) ≡ length (now id)) × (length (now q) ≡ length (now id)) ⌝ }
+    requires { ⌜ (next ≤ length (now id)) × HasRows exploded own next (take entries (now ids)) (now id) ⌝ }
+    requires { ⌜ Bounded (getD (now l) own 0) (take entries (now «before_l»)) × Bounded (getD (now r) own 0) (take entries (now «before_r»)) ⌝ }
+    ensures { λ _. ⌜ newColumns id l r q ≡ placedAll exploded own next entries (old ids) (old quotas) (old «before_l») (old «before_r») (oldColumns id l r q) ⌝ }
+{
+    let old_l = l[own];
+    let old_r = r[own];
+    place(&mut *id, own, next, exploded, 0, ids, ids, entries);
+    place(&mut *l, own, next, exploded, old_l, ids, before_l, entries);
+    place(&mut *r, own, next, exploded, old_r, ids, before_r, entries);
+    place(&mut *q, own, next, exploded, 0, ids, quotas, entries);
 }

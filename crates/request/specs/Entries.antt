@@ -1,9 +1,10 @@
 -- Entries and sums over lists of them. "The same entries" is said by sums: every sum over them agrees.
 use mathlib.Core.Path.{_≡_}
-use mathlib.Core.Bool.{Bool, true, false, cond, _||_}
+use mathlib.Core.Bool.{Bool, false, cond, _||_}
 use mathlib.Core.List.{List, [], _∷_}
 use Prim.Native.Nat.{ℕ, _+_, _≤_}
 use lib.Dec.{eqb, leb}
+pub use Rattle.rules.specs.Pick.{pick}
 
 -- an entry of a request, or a group with its quota
 pub record Entry : Type 0 where
@@ -12,10 +13,6 @@ pub record Entry : Type 0 where
 
 abbrev pub entry : ℕ → ℕ → Entry
 entry id quota = record { id = id; quota = quota }
-
-abbrev pub pick : Bool → ℕ → ℕ → ℕ
-pick true a b = a
-pick false a b = b
 
 -- the sum of f over some entries
 abbrev pub sum : (Entry → ℕ) → List Entry → ℕ

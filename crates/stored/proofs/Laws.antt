@@ -1,7 +1,7 @@
 -- The laws of the stored table: a table that is stored reads back as that table, and bytes that read in as a table are that table's bytes.
 use mathlib.Core.Path.{_≡_, refl, ap, ap₂, sym, _∙_}
 use mathlib.Core.Bool.{false}
-use mathlib.Core.List.{List, [], _∷_, _++_, append-assoc, append-nil}
+use mathlib.Core.List.{List, [], _∷_, _++_, flatMap, append-assoc, append-nil}
 use Prim.Native.Nat.{ℕ, zero, suc, _+_, _-_, _≤_}
 use native.Mathlib.Omega.{arith}
 use lib.Dec.{eqb, ltb}
@@ -13,17 +13,15 @@ use Rattle.rules.specs.Limits.{greatest}
 use Rattle.rules.specs.Buffers.{Bytes}
 use Rattle.rules.proofs.Answers.{same-answer, peel, then-answer}
 use Rattle.rules.proofs.Bools.{or-none}
-use Rattle.number.specs.Number.{Number, numberAt, bytesOf}
-use Rattle.number.proofs.Laws.{number-back, number-stands, number-ends}
+use Rattle.number.specs.Number.{found, numberAt, bytesOf}
+use Rattle.number.proofs.Laws.{number-back}
+use Rattle.number.proofs.Runs.{run-back, Stands, both-stand, one-stands, run-stands}
 use Rattle.table.specs.Columns.{Row, Columns, rowAt, rowsFrom, rows}
 use Rattle.table.specs.Check.{someRow, lengthsBad, countBad, valueBad, soundRows, checked}
 use Rattle.stored.specs.Stored.{rowBytes, rowsBytes, tableBytes, RowRead, rowFound, rowRead, Rows, joined, rowsAt, rowsToEnd, readRows}
 use Rattle.table.proofs.Rows.{rows-length}
 use Rattle.table.proofs.Lengths.{lengths-good, count-good, good-count}
 use Rattle.table.proofs.Passing.{good-rows, rows-good, check-passed}
-use Rattle.stored.proofs.Writing.{row-count}
-use Rattle.stored.proofs.Filling.{rows-suc}
-use Rattle.stored.proofs.Ending.{read-rest}
 
 -- ## Stored, then read
 
@@ -38,26 +36,27 @@ abbrev AllFit : List Row → Type 0
 AllFit [] = Unit {0}
 AllFit (w ∷ t) = Fits w × AllFit t
 
+-- a row's bytes are those of four numbers, one after another
+row-run : (w : Row) → flatMap bytesOf (w .id ∷ w .l ∷ w .r ∷ w .q ∷ []) ≡ rowBytes w
+unfolding rowBytes flatMap
+row-run w = simp append-nil
+
 row-back : (w : Row) (before after : List ℕ) → Fits w
     → rowRead (before ++ (rowBytes w ++ after)) (length before) ≡ rowFound (w .id) (w .l) (w .r) (w .q) (length before + length (rowBytes w))
-unfolding rowRead rowBytes
+unfolding rowRead
 row-back w before after f =
-    let a = bytesOf (w .id) in
-    let b = bytesOf (w .l) in
-    let d = bytesOf (w .r) in
-    let e = bytesOf (w .q) in
-    let n = row-count w in
-    let whole : before ++ ((a ++ (b ++ (d ++ e))) ++ after) ≡ before ++ (a ++ (b ++ (d ++ (e ++ after)))) = simp append-assoc in
-    let ea = number-back (w .id) before (b ++ (d ++ (e ++ after))) (f .in-id) in
-    let eb = simp append-assoc at (simp length-append at (number-back (w .l) (before ++ a) (d ++ (e ++ after)) (f .in-l))) in
-    let ed = simp append-assoc at (simp length-append at (number-back (w .r) ((before ++ a) ++ b) (e ++ after) (f .in-r))) in
-    let ee = simp append-assoc at (simp length-append at (number-back (w .q) (((before ++ a) ++ b) ++ d) after (f .in-q))) in
-    rw (whole, ea, eb, ed, ee) (ap (rowFound (w .id) (w .l) (w .r) (w .q)) (omega arith))
+    let a = rw row-run at (run-back (w .id ∷ w .l ∷ w .r ∷ w .q ∷ []) before after (f .in-id, (f .in-l, (f .in-r, (f .in-q, tt))))) in
+    rw (a .1, a .2 .1, a .2 .2 .1, a .2 .2 .2 .1, a .2 .2 .2 .2)
+
+pub rows-suc : (n : ℕ) (bytes : List ℕ) (at : ℕ)
+    → rowsAt (suc n) bytes at ≡ then (rowRead bytes at) (λ (w : RowRead). joined (w .row) (rowsAt n bytes (w .next)))
+unfolding rowsAt
+rows-suc n bytes at = refl
 
 -- the rows, in the middle of longer bytes
 rows-back : (t : List Row) (before after : List ℕ) → AllFit t
     → rowsAt (length t) (before ++ (rowsBytes t ++ after)) (length before) ≡ answer (record { rows = t; next = length before + length (rowsBytes t) })
-unfolding rowsAt rowsBytes
+unfolding rowsAt flatMap
 rows-back [] before after f =
     let e : length before ≡ length before + 0 = omega arith in
     ap (λ (n : ℕ). answer (record { rows = []; next = n })) e
@@ -96,6 +95,12 @@ rows-fit c h i (suc n) e =
     let a = or-none (valueBad (rowAt c i)) _ e in
     (row-fits (rowAt c i) (h i) (a .0), rows-fit c h (suc i) n (a .1))
 
+-- past 10 and the count, the rows up to the bytes' end
+pub read-rest : (d : Columns) (bytes : List ℕ) {count next : ℕ} → lengthsBad d ≡ false → numberAt bytes 0 ≡ found count next → countBad (length (d .id)) count ≡ false
+    → readRows d bytes ≡ rowsToEnd count bytes next
+unfolding readRows
+read-rest d bytes good e h = rw (good, e, h)
+
 table-back : (t : List Row) (d : Columns) → AllFit t → soundRows t ≡ answer t → 1 ≤ length t → lengthsBad d ≡ false → length t ≤ length (d .id)
     → readRows d (tableBytes t) ≡ answer t
 unfolding tableBytes rowsToEnd
@@ -133,59 +138,40 @@ rows-count (suc n) bytes at s e =
     let b = then-answer (rowsAt n bytes (a .0 .next)) _ (a .2) in
     rw (← (same-answer (b .2))) (ap suc (rows-count n bytes (a .0 .next) (b .0) (b .1)))
 
--- what reads in at a position stands there, and the next position is after it
-record Stands (bytes : List ℕ) (at next : ℕ) (part : List ℕ) : Type 0 where
-  ends : next ≡ at + length part
-  stands : drop at bytes ≡ part ++ drop next bytes
-
-number-there : (bytes : List ℕ) (at : ℕ) (n : Number) → Bytes bytes → numberAt bytes at ≡ answer n → Stands bytes at (n .next) (bytesOf (n .value))
-number-there bytes at n bs e =
-    let s = number-stands bytes at bs e in
-    let i = number-ends bytes at e in
-    record {
-      ends = s .0;
-      stands = ap (drop at) (s .1) ∙ drop-at (take at bytes) _ at (length-take-le at bytes (omega arith));
-    }
-
-both-there : {bytes : List ℕ} {at mid next : ℕ} {a b : List ℕ} → Stands bytes at mid a → Stands bytes mid next b → Stands bytes at next (a ++ b)
-both-there {bytes} {at} {mid} {next} {a} {b} s t =
-    record {
-      ends = omega (arith, s .ends, t .ends, length-append a b);
-      stands = s .stands ∙ ap (λ (r : List ℕ). a ++ r) (t .stands) ∙ sym (append-assoc a b (drop next bytes));
-    }
-
 row-there : (bytes : List ℕ) (at : ℕ) (w : RowRead) → Bytes bytes → rowRead bytes at ≡ answer w → Stands bytes at (w .next) (rowBytes (w .row))
-unfolding rowRead rowBytes
+unfolding rowRead
 row-there bytes at w bs e =
     let a = then-answer (numberAt bytes at) _ e in
     let b = then-answer (numberAt bytes (a .0 .next)) _ (a .2) in
     let d = then-answer (numberAt bytes (b .0 .next)) _ (b .2) in
     let g = then-answer (numberAt bytes (d .0 .next)) _ (d .2) in
-    rw (← (same-answer (g .2)))
-    (both-there (number-there bytes at (a .0) bs (a .1))
-    (both-there (number-there bytes (a .0 .next) (b .0) bs (b .1))
-    (both-there (number-there bytes (b .0 .next) (d .0) bs (d .1)) (number-there bytes (d .0 .next) (g .0) bs (g .1)))))
+    rw (← (same-answer (g .2)), ← row-run)
+    (run-stands at (a .0 .value ∷ b .0 .value ∷ d .0 .value ∷ g .0 .value ∷ []) bs (a .0 .next, a .1, (b .0 .next, b .1, (d .0 .next, d .1, (g .0 .next, g .1, refl)))))
 
 rows-there : (n : ℕ) (bytes : List ℕ) (at : ℕ) (s : Rows) → Bytes bytes → rowsAt n bytes at ≡ answer s → Stands bytes at (s .next) (rowsBytes (s .rows))
-unfolding rowsAt rowsBytes
+unfolding rowsAt flatMap
 rows-there zero bytes at s bs e = rw (← (same-answer e)) (record { ends = omega arith; stands = refl })
 rows-there (suc n) bytes at s bs e =
     let a = then-answer (rowRead bytes at) _ (sym (rows-suc n bytes at) ∙ e) in
     let b = then-answer (rowsAt n bytes (a .0 .next)) _ (a .2) in
     rw (← (same-answer (b .2)))
-    (both-there (row-there bytes at (a .0) bs (a .1)) (rows-there n bytes (a .0 .next) (b .0) bs (b .1)))
+    (both-stand (row-there bytes at (a .0) bs (a .1)) (rows-there n bytes (a .0 .next) (b .0) bs (b .1)))
 
--- what a read that is answered found
+-- what a read that is answered found: the count, as many rows up to the bytes' end, and that they pass the check
 pub record Read (d : Columns) (bytes : List ℕ) (t : List Row) : Type 0 where
   pub lengths : lengthsBad d ≡ false
   pub some : 1 ≤ length t
   pub most : length t ≤ length (d .id)
   pub sound : soundRows t ≡ answer t
-  pub whole : bytes ≡ tableBytes t
+  pub next : ℕ
+  pub count : numberAt bytes 0 ≡ found (length t) next
+  pub end : ℕ
+  pub rows : rowsAt (length t) bytes next ≡ answer (record { rows = t; next = end })
+  pub ends : length bytes ≤ end
 
-pub read-found : (d : Columns) (bytes : List ℕ) {t : List Row} → Bytes bytes → readRows d bytes ≡ answer t → Read d bytes t
-unfolding readRows tableBytes rowsToEnd
-read-found d bytes {t} bs e =
+pub read-found : (d : Columns) (bytes : List ℕ) {t : List Row} → readRows d bytes ≡ answer t → Read d bytes t
+unfolding readRows rowsToEnd
+read-found d bytes {t} e =
     let a = peel (lengthsBad d) _ _ e in
     let n = then-answer (numberAt bytes 0) _ (a .1) in
     let b = peel (countBad (length (d .id)) (n .0 .value)) _ _ (n .2) in
@@ -194,21 +180,23 @@ read-found d bytes {t} bs e =
     let g = peel (ltb (s .0 .next) (length bytes)) _ _ (s .2) in
     let r = good-rows (s .0 .rows) (g .1) in
     let m = rows-count (n .0 .value) bytes (n .0 .next) (s .0) (s .1) in
-    let h = rows-there (n .0 .value) bytes (n .0 .next) (s .0) bs (s .1) in
-    let all = both-there (number-there bytes 0 (n .0) bs (n .1)) h in
-    let none = drop-of-length-le bytes (ltb-false (s .0 .next) (length bytes) (g .0)) in
     rw (← (r .1))
     (record {
       lengths = a .0;
       some = omega (arith, k .0, m);
       most = omega (arith, k .1, m);
       sound = rows-good (s .0 .rows) (r .0);
-      whole =
-          all .stands
-          ∙ ap₂ (λ (k : ℕ) (u : List ℕ). (bytesOf k ++ rowsBytes (s .0 .rows)) ++ u) (sym m) none
-          ∙ append-nil (bytesOf (length (s .0 .rows)) ++ rowsBytes (s .0 .rows));
+      next = n .0 .next;
+      count = rw m (n .1);
+      end = s .0 .next;
+      rows = rw m (s .1);
+      ends = ltb-false (s .0 .next) (length bytes) (g .0);
     })
 
 -- bytes that read in as a table are written back as those bytes exactly
 pub read-stored : (d : Columns) (bytes : List ℕ) {t : List Row} → Bytes bytes → readRows d bytes ≡ answer t → bytes ≡ tableBytes t
-read-stored d bytes bs e = read-found d bytes bs e .whole
+unfolding tableBytes
+read-stored d bytes {t} bs e =
+    let r = read-found d bytes e in
+    let all = both-stand (one-stands bs (r .count)) (rows-there (length t) bytes (r .next) _ bs (r .rows)) in
+    all .stands ∙ ap (λ (u : List ℕ). (bytesOf (length t) ++ rowsBytes t) ++ u) (drop-of-length-le bytes (r .ends)) ∙ append-nil (bytesOf (length t) ++ rowsBytes t)

@@ -1,5 +1,3 @@
-pub mod Writing
-pub mod Filling
-pub mod Ending
+pub mod Bytes
 pub mod Laws
 pub mod RoundTrips

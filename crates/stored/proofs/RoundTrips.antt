@@ -14,7 +14,7 @@ use Rattle.table.proofs.Lengths.{good-count, put-length, put-lengths}
 use Rattle.table.proofs.Passing.{check-passed}
 use Rattle.stored.specs.Stored.{tableBytes, storeAnswer, storeBuffer, readRows}
 use Rattle.stored.specs.RoundTrips.{storedBytes, StoreAccepted, ReadsBack, ReadAccepted, WrittenBack}
-use Rattle.stored.proofs.Laws.{Read, stored-back, read-found}
+use Rattle.stored.proofs.Laws.{Read, stored-back, read-found, read-stored}
 
 -- the bytes of rows that passed the check stand at the buffer's start
 bytes-stored : (c : Columns) (count : ℕ) (buffer : List ℕ) {t : List Row} {n : ℕ} → checked c count ≡ answer t → length (tableBytes t) ≡ n → n ≤ length buffer
@@ -56,10 +56,11 @@ pub written-back : (d : Columns) (bytes : List ℕ) (n : ℕ) (buffer : List ℕ
 unfolding storeAnswer
 written-back d bytes n buffer s =
     let a = counted-found (readRows d bytes) (s .accepted) in
-    let r = read-found d bytes (s .are-bytes) (a .1) in
+    let r = read-found d bytes (a .1) in
+    let whole = read-stored d bytes (s .are-bytes) (a .1) in
     let c = passes d (a .1) (a .2) r in
-    let k : length (tableBytes (a .0)) ≡ length bytes = sym (ap length (r .whole)) in
+    let k : length (tableBytes (a .0)) ≡ length bytes = sym (ap length whole) in
     record {
       answer-back = rw c (written-all buffer 0 (tableBytes (a .0)) (omega (arith, s .holds)) ∙ ap answer k);
-      bytes-back = bytes-stored (afterwards (readRows d bytes) d) n buffer c k (s .holds) ∙ sym (r .whole);
+      bytes-back = bytes-stored (afterwards (readRows d bytes) d) n buffer c k (s .holds) ∙ sym whole;
     }

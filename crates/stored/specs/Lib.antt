@@ -1,4 +1,2 @@
 pub mod Stored
-pub mod Says
-pub mod Work
 pub mod RoundTrips

@@ -1,7 +1,7 @@
 -- The stored table (document 01, "Stored table"): count, then id, l, r, q of each row.
 use Prim.Native.Nat.{ℕ, zero, suc}
 use mathlib.Core.Bool.{cond}
-use mathlib.Core.List.{List, [], _∷_, _++_}
+use mathlib.Core.List.{List, [], _∷_, _++_, flatMap}
 use lib.Dec.{ltb}
 use lib.ListN.{length}
 use Rattle.rules.specs.Answers.{Answer, answer, refused, then}
@@ -13,9 +13,8 @@ use Rattle.table.specs.Check.{lengthsBad, countBad, soundRows, checked}
 unfoldable pub rowBytes : Row → List ℕ
 rowBytes w = bytesOf (w .id) ++ (bytesOf (w .l) ++ (bytesOf (w .r) ++ bytesOf (w .q)))
 
-unfoldable pub rowsBytes : List Row → List ℕ
-rowsBytes [] = []
-rowsBytes (w ∷ t) = rowBytes w ++ rowsBytes t
+abbrev pub rowsBytes : List Row → List ℕ
+rowsBytes t = flatMap rowBytes t
 
 unfoldable pub tableBytes : List Row → List ℕ
 tableBytes t = bytesOf (length t) ++ rowsBytes t

@@ -1,6 +1,2 @@
-// The stored table (document 01): a table's bytes, written and read.
-mod reading;
-mod storing;
-
-pub use reading::read;
-pub use storing::store;
+// The stored table (document 01, "Stored table"): its bytes, what they read in as, and the two round trips.
+// Definitions and laws alone; crates store and load have the code.

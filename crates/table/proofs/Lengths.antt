@@ -11,14 +11,8 @@ use Rattle.rules.specs.Limits.{mostRows}
 use Rattle.rules.proofs.Bools.{or-none, and-both, not-none}
 use Rattle.table.specs.Columns.{Row, Columns, overlay, put}
 use Rattle.table.specs.Check.{lengthsBad, countBad}
-use Rattle.table.specs.Held.{Holds}
-
-pub record Lengths (c : Columns) : Type 0 where
-  pub in-l : length (c .l) ≡ length (c .id)
-  pub in-r : length (c .r) ≡ length (c .id)
-  pub in-q : length (c .q) ≡ length (c .id)
-  pub some : 1 ≤ length (c .id)
-  pub most : length (c .id) ≤ mostRows
+use Rattle.table.specs.Sound.{Lengths}
+use Rattle.table.specs.inside.Held.{Holds}
 
 pub lengths-good : (c : Columns) → lengthsBad c ≡ false → Lengths c
 unfolding lengthsBad
@@ -64,10 +58,10 @@ lengths-alike c d hi hl hr hq = rw (hi, hl, hr, hq)
 module _ (t : List Row) (c : Columns) where
   pub put-length : length t ≤ length (c .id) → length (put t c .id) ≡ length (c .id)
   unfolding put
-  put-length fits = column-length (λ w. w .id) t (c .id) fits
+  put-length fits = column-length _ t (c .id) fits
 
   pub put-lengths : lengthsBad c ≡ false → length t ≤ length (c .id) → lengthsBad (put t c) ≡ false
   unfolding put
   put-lengths good fits =
       let h = holds-count (lengths-good c good) fits in
-      rw (lengths-alike c (put t c) (column-length (λ w. w .id) t (c .id) fits) (column-length (λ w. w .l) t (c .l) (h .in-l)) (column-length (λ w. w .r) t (c .r) (h .in-r)) (column-length (λ w. w .q) t (c .q) (h .in-q))) good
+      rw (lengths-alike c (put t c) (column-length _ t _ fits) (column-length _ t _ (h .in-l)) (column-length _ t _ (h .in-r)) (column-length _ t _ (h .in-q))) good

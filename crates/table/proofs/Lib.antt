@@ -1,9 +1,9 @@
 pub mod Rows
 pub mod Tests
+pub mod Pairs
 pub mod Meeting
-pub mod Finding
+pub mod Places
 pub mod Lengths
 pub mod Passing
 pub mod Soundness
-pub mod PartialOrder
 pub mod Certificate

@@ -10,11 +10,12 @@ use Rattle.rules.proofs.Answers.{same-answer, peel, then-answer, then-refused}
 use Rattle.rules.proofs.Bools.{or-none}
 use Rattle.table.specs.Columns.{Row, Columns, rows}
 use Rattle.table.specs.Check.{someRow, somePair, lengthsBad, valueBad, sameId, rangesMeet, soundRows, checked}
-use Rattle.table.specs.Held.{Holds}
+use Rattle.table.specs.Sound.{Lengths}
+use Rattle.table.specs.inside.Held.{Holds}
 use Rattle.table.specs.Says.{checkedSays}
 use Rattle.table.specs.declared.Checked.{Checked}
 use Rattle.table.specs.declared.Checked.the-variants as verdict
-use Rattle.table.proofs.Lengths.{Lengths, lengths-good, count-good, holds-count}
+use Rattle.table.proofs.Lengths.{lengths-good, count-good, holds-count}
 
 -- rows that pass 11, 12 and 13
 pub record Good (t : List Row) : Type 0 where

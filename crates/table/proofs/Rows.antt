@@ -6,7 +6,7 @@ use native.Mathlib.Omega.{arith}
 use lib.ListN.{length, set, drop}
 use lib.Seq.{set-split}
 use Rattle.table.specs.Columns.{Row, Columns, columns, rowAt, rowsFrom, rows, put}
-use Rattle.table.specs.Held.{Holds}
+use Rattle.table.specs.inside.Held.{Holds}
 
 -- some rows are the first of them and the others
 pub rows-split : (c : Columns) (i m n : ℕ) → rowsFrom c i (m + n) ≡ rowsFrom c i m ++ rowsFrom c (i + m) n

@@ -1,21 +1,22 @@
 -- The check refuses exactly the unsound tables.
 use mathlib.Core.Path.{_≡_, refl, ap, sym, _∙_}
 use mathlib.Core.Bool.{Bool, true, false, true≢false}
-use mathlib.Core.Logic.{_⊎_, inl, inr}
+use mathlib.Core.Logic.{_⊎_, inl, inr, ⊎-elim}
 use Prim.Native.Nat.{ℕ, zero, suc, _+_, _-_, _≤_, _<_}
 use native.Mathlib.Omega.{arith}
 use native.Mathlib.Numerals.{add-one}
 use lib.Dec.{eqb, ltb}
 use lib.ListN.{length}
-use borrow.Author.Tests.{eqb-false, leb-true, ltb-false, eq-eqb, ne-eqb, le-leb, lt-leb, le-ltb}
+use borrow.Author.Tests.{eqb-false, ltb-false, eq-eqb, ne-eqb, le-ltb}
 use Rattle.rules.specs.Answers.{Answer, answer, refused}
 use Rattle.rules.specs.Limits.{greatest}
 use Rattle.rules.proofs.Bools.{or-none, not-none}
 use Rattle.rules.proofs.Cases.{by-lt}
 use Rattle.boxes.specs.Boxes.{apart}
-use Rattle.table.specs.Columns.{Row, Columns, rowAt, rows}
+use Rattle.boxes.proofs.Ranges.{apart-clear, clear-apart}
+use Rattle.table.specs.Columns.{Row, lowL, sizeOf, Columns, rowAt, rows}
 use Rattle.table.specs.Check.{someRow, somePair, lengthsBad, valueBad, sameId, rangesMeet, checked}
-use Rattle.table.specs.Sound.{In, SoundRow, Apart, Sound}
+use Rattle.table.specs.Sound.{In, SoundRow, Apart, Lengths, Sound}
 use Rattle.table.proofs.Tests.{none-more, no-pair-more, some-found, pair-found, none-yet, no-pair-yet}
 use Rattle.table.proofs.Lengths.{good-count}
 use Rattle.table.proofs.Passing.{Good, Passed, rows-good, check-passed}
@@ -49,19 +50,14 @@ module _ (c : Columns) (p : Row → Row → Bool) where
 -- ranges are apart where no number is in both
 module _ (a q b p : ℕ) (some : 1 ≤ q) (other : 1 ≤ p) where
   apart-none : apart a q b p ≡ true → (n : ℕ) → In n a q → In n b p → ⊥
-  unfolding apart
-  apart-none e n x y =
-      by-lt b a
-      (λ h. let k = leb-true (b + p) a (rw (lt-leb a b h) at e) in omega (arith, x .0, x .1, y .0, y .1))
-      (λ h. let k = leb-true (a + q) b (rw (le-leb a b h) at e) in omega (arith, x .0, x .1, y .0, y .1))
+  apart-none e n x y = ⊎-elim (λ h. omega (arith, x .0, x .1, y .0, y .1)) (λ h. omega (arith, x .0, x .1, y .0, y .1)) (apart-clear a q b p e)
 
   -- ranges that are not have the greater of the two starts in both
   none-apart : ((n : ℕ) → In n a q → In n b p → ⊥) → apart a q b p ≡ true
-  unfolding apart
   none-apart f =
-      by-lt b a
-      (λ h. rw (lt-leb a b h) (by-lt a (b + p) (λ k. absurd (f a (omega arith, omega arith) (omega arith, omega arith))) (le-leb (b + p) a)))
-      (λ h. rw (le-leb a b h) (by-lt b (a + q) (λ k. absurd (f b (omega arith, omega arith) (omega arith, omega arith))) (le-leb (a + q) b)))
+      let both : b < a + q → a < b + p → ⊥ = λ h k.
+      by-lt a b (λ m. f b (omega arith, omega arith) (omega arith, omega arith)) (λ m. f a (omega arith, omega arith) (omega arith, omega arith)) in
+      clear-apart a q b p some other (by-lt b (a + q) (λ h. inr (by-lt a (b + p) (λ k. absurd (both h k)) (λ k. k))) inl)
 
 -- 11
 pub value-sound : (w : Row) → valueBad w ≡ false → SoundRow w
@@ -71,7 +67,7 @@ value-sound w e =
     let b = or-none (eqb (w .l) 0) _ (a .1) in
     let c = or-none (eqb (w .r) 0) _ (b .1) in
     let d = or-none (eqb (w .q) 0) _ (c .1) in
-    let f = or-none (ltb greatest (w .l + w .q - 1)) _ (d .1) in
+    let f = or-none (ltb greatest (lowL w + sizeOf w - 1)) _ (d .1) in
     let i : w .id ≡ 0 → ⊥ = eqb-false _ _ (a .0) in
     let l : w .l ≡ 0 → ⊥ = eqb-false _ _ (b .0) in
     let r : w .r ≡ 0 → ⊥ = eqb-false _ _ (c .0) in
@@ -85,7 +81,7 @@ value-sound w e =
       r-end = ltb-false _ _ (f .1);
     }
 
-sound-value : (w : Row) → SoundRow w → valueBad w ≡ false
+pub sound-value : (w : Row) → SoundRow w → valueBad w ≡ false
 unfolding valueBad
 sound-value w s =
     let i : w .id ≡ 0 → ⊥ = λ e. omega (arith, s .id-some) in
@@ -119,11 +115,7 @@ passed-sound c count p =
     let good = p .good in
     let row : (i : ℕ) → i < count → SoundRow (rowAt c i) = λ i h. value-sound _ (none-each c valueBad count (good .values) i h) in
     record {
-      length-l = p .lengths .in-l;
-      length-r = p .lengths .in-r;
-      length-q = p .lengths .in-q;
-      length-some = p .lengths .some;
-      length-most = p .lengths .most;
+      lengths = p .lengths;
       count-some = p .some;
       count-most = p .most;
       row = row;
@@ -141,11 +133,11 @@ sound-good c count s =
       ranges = each-no-pair c rangesMeet count (λ i j h k. apart-ranges _ _ (s .row i (omega arith)) (s .row j k) (s .pair i j h k));
     }
 
-sound-lengths : (c : Columns) (count : ℕ) → Sound c count → lengthsBad c ≡ false
+lengths-pass : {c : Columns} → Lengths c → lengthsBad c ≡ false
 unfolding lengthsBad
-sound-lengths c count s =
-    let none : length (c .id) ≡ 0 → ⊥ = λ e. omega (arith, s .length-some) in
-    rw (eq-eqb _ _ (s .length-l), eq-eqb _ _ (s .length-r), eq-eqb _ _ (s .length-q), ne-eqb _ _ none, le-ltb _ _ (s .length-most))
+lengths-pass {c} l =
+    let none : length (c .id) ≡ 0 → ⊥ = λ e. omega (arith, l .some) in
+    rw (eq-eqb _ _ (l .in-l), eq-eqb _ _ (l .in-r), eq-eqb _ _ (l .in-q), ne-eqb _ _ none, le-ltb _ _ (l .most))
 
 -- A table that passes the check is sound, and a sound table passes it.
 pub check-sound : (c : Columns) (count : ℕ) → checked c count ≡ answer (rows c count) → Sound c count
@@ -154,7 +146,7 @@ check-sound c count e = passed-sound c count (check-passed c count e .0)
 pub sound-checks : (c : Columns) (count : ℕ) → Sound c count → checked c count ≡ answer (rows c count)
 unfolding checked
 sound-checks c count s =
-    rw (sound-lengths c count s, good-count _ _ (s .count-some) (s .count-most)) (rows-good (rows c count) (sound-good c count s))
+    rw (lengths-pass (s .lengths), good-count _ _ (s .count-some) (s .count-most)) (rows-good (rows c count) (sound-good c count s))
 
 -- The check answers the rows in use or refuses.
 pub sound-or-refused : (c : Columns) (count : ℕ) → (checked c count ≡ answer (rows c count)) ⊎ ((n : ℕ) × (checked c count ≡ refused n))

@@ -1,24 +1,12 @@
 -- Tests over rows and pairs of rows: a row more, and a row that is found.
 use mathlib.Core.Path.{_≡_, refl, ap, sym, _∙_}
-use mathlib.Core.Bool.{Bool, true, false, _||_, true≢false}
+use mathlib.Core.Bool.{Bool, true, false, _||_, true≢false, or-assoc, or-false, or-true}
 use mathlib.Core.List.{List, [], _∷_, _++_}
 use Prim.Native.Nat.{ℕ, _+_, _-_, _≤_, _<_}
 use native.Mathlib.Omega.{arith}
 use Rattle.table.specs.Columns.{Row, Columns, rowAt, rowsFrom, rows}
 use Rattle.table.specs.Check.{someRow, somePair}
 use Rattle.table.proofs.Rows.{rows-more, rows-at}
-
-or-assoc : (a b c : Bool) → (a || (b || c)) ≡ ((a || b) || c)
-or-assoc true b c = refl
-or-assoc false b c = refl
-
-or-false : (a : Bool) → (a || false) ≡ a
-or-false true = refl
-or-false false = refl
-
-or-true : (a : Bool) → (a || true) ≡ true
-or-true true = refl
-or-true false = refl
 
 or-cross : (a b c d : Bool) → ((a || b) || (c || d)) ≡ ((a || c) || (b || d))
 or-cross true b c d = refl
@@ -30,7 +18,7 @@ or-cross false false false d = refl
 pub some-append : (p : Row → Bool) (s t : List Row) → someRow p (s ++ t) ≡ (someRow p s || someRow p t)
 unfolding someRow
 some-append p [] t = refl
-some-append p (w ∷ s) t = ap (λ b. p w || b) (some-append p s t) ∙ or-assoc (p w) (someRow p s) (someRow p t)
+some-append p (w ∷ s) t = ap (λ b. p w || b) (some-append p s t) ∙ sym (or-assoc (p w) (someRow p s) (someRow p t))
 
 pub some-one : (p : Row → Bool) (w : Row) → someRow p (w ∷ []) ≡ p w
 unfolding someRow

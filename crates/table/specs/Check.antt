@@ -7,7 +7,7 @@ use lib.ListN.{length}
 use Rattle.rules.specs.Answers.{Answer, answer, refused}
 use Rattle.rules.specs.Limits.{greatest, mostRows}
 use Rattle.boxes.specs.Boxes.{apart}
-use Rattle.table.specs.Columns.{Row, Columns, rows}
+use Rattle.table.specs.Columns.{Row, lowL, lowR, sizeOf, Columns, rows}
 
 -- the test holds of some row; of some row and one below it
 unfoldable pub someRow : (Row → Bool) → List Row → Bool
@@ -34,7 +34,7 @@ valueBad w =
     eqb (w .id) 0
     || (eqb (w .l) 0
     || (eqb (w .r) 0
-    || (eqb (w .q) 0 || (ltb greatest (w .l + w .q - 1) || ltb greatest (w .r + w .q - 1)))))
+    || (eqb (w .q) 0 || (ltb greatest (lowL w + sizeOf w - 1) || ltb greatest (lowR w + sizeOf w - 1)))))
 
 -- 12: two equal ids
 unfoldable pub sameId : Row → Row → Bool
@@ -42,7 +42,7 @@ sameId w v = eqb (w .id) (v .id)
 
 -- 13: ranges of two rows meet in l or in r
 unfoldable pub rangesMeet : Row → Row → Bool
-rangesMeet w v = not (apart (w .l) (w .q) (v .l) (v .q)) || not (apart (w .r) (w .q) (v .r) (v .q))
+rangesMeet w v = not (apart (lowL w) (sizeOf w) (lowL v) (sizeOf v)) || not (apart (lowR w) (sizeOf w) (lowR v) (sizeOf v))
 
 -- rows that pass 11, 12 and 13, in that order
 unfoldable pub soundRows : List Row → Answer (List Row)

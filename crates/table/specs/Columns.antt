@@ -1,7 +1,9 @@
 -- The table (document 01, "The table"): four lent columns id, l, r, q, and a count of the rows in use. Rows past the count have no meaning.
 use Prim.Native.Nat.{ℕ, zero, suc}
 use mathlib.Core.List.{List, [], _∷_, _++_, map}
+use lib.Dec.{eqb}
 use lib.ListN.{length, getD, drop}
+use Rattle.rules.specs.Pick.{pick}
 use Rattle.rules.specs.Answers.{Answer, answer, refused, then}
 
 -- a group's row: its id, its l-value, its r-value and its quota
@@ -20,6 +22,15 @@ lowR w = w .r
 
 abbrev pub sizeOf : Row → ℕ
 sizeOf w = w .q
+
+-- the l and the r of the group x among some rows (0 where it is not there)
+abbrev pub lOf : ℕ → List Row → ℕ
+lOf x [] = 0
+lOf x (w ∷ t) = pick (eqb x (w .id)) (w .l) (lOf x t)
+
+abbrev pub rOf : ℕ → List Row → ℕ
+rOf x [] = 0
+rOf x (w ∷ t) = pick (eqb x (w .id)) (w .r) (rOf x t)
 
 pub record Columns : Type 0 where
   pub id : List ℕ
@@ -41,6 +52,14 @@ rowsFrom c i (suc count) = rowAt c i ∷ rowsFrom c (suc i) count
 -- the rows in use
 abbrev pub rows : Columns → ℕ → List Row
 rows c count = rowsFrom c 0 count
+
+-- columns with a count of the rows in use
+pub record Table : Type 0 where
+  pub columns : Columns
+  pub count : ℕ
+
+abbrev pub rowsIn : Table → List Row
+rowsIn s = rows (s .columns) (s .count)
 
 -- one column with new values from the top, and its values past them
 abbrev pub overlay : List ℕ → List ℕ → List ℕ

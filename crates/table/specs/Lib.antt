@@ -1,10 +1,7 @@
 pub mod Columns
 pub mod Lent
 pub mod Check
-pub mod Held
 pub mod Sound
-pub mod Fresh
-pub mod Order
-pub mod Found
+pub mod Places
 pub mod Says
-pub mod Certificate
+pub mod inside

@@ -14,16 +14,16 @@ use Rattle.number.specs.Number.{numberAt, bytesOf}
 use Rattle.number.proofs.Laws.{number-count}
 use Rattle.table.specs.Columns.{Row, Columns, counted}
 use Rattle.table.specs.Check.{lengthsBad, countBad, checked}
-use Rattle.table.specs.Fresh.{freshRows}
+use Rattle.fresh.specs.Fresh.{freshRows}
 use Rattle.table.proofs.Lengths.{lengths-good, count-good}
 use Rattle.table.proofs.Passing.{check-passed, good-rows}
 use Rattle.table.proofs.Rows.{rows-length}
 use Rattle.refine.specs.Refine.{refined}
 use Rattle.refine.proofs.Fitting.{refined-most}
 use Rattle.stored.specs.Stored.{rowsAt, rowsToEnd, readRows, rowsBytes, tableBytes, storeAnswer}
-use Rattle.stored.proofs.Writing.{rows-most}
+use Rattle.stored.proofs.Bytes.{rows-most}
 use Rattle.stored.proofs.Laws.{rows-count}
-use Rattle.zintukor.specs.Small.{Small}
+use Rattle.zintukor.specs.inside.Small.{Small}
 
 -- what a small answer holds
 pub small-count : (a : Answer ℕ) {n : ℕ} → Small a → a ≡ answer n → n ≤ greatest

@@ -1,28 +1,28 @@
 // The calls for a host in C or Rust (include/zintukor.h). Each answers one number: kind * 4294967296 + value.
 // None has a precondition, keeps state or allocates; a refused call leaves each column and buffer as it found it.
-mod codes;
+mod counts;
 
 ghost use mathlib.Core.Path.{_≡_};
 ghost use Rattle.table.specs.Columns.{counted, afterwards};
 ghost use Rattle.table.specs.Check.{checked};
-ghost use Rattle.table.specs.Fresh.{freshRows};
-ghost use Rattle.table.specs.Order.{order as tableOrder};
+ghost use Rattle.fresh.specs.Fresh.{freshRows};
+ghost use Rattle.order.specs.Order.{order as tableOrder};
 ghost use Rattle.refine.specs.Refine.{refined};
-ghost use Rattle.grant.specs.Decision.{decided};
+ghost use Rattle.decide.specs.Decision.{decided};
 ghost use Rattle.stored.specs.Stored.{storeAnswer, storeBuffer, readRows};
-ghost use Rattle.zintukor.specs.Codes.{countCode, orderCode, decisionCode};
+ghost use Rattle.codes.specs.Codes.{countCode, orderCode, decisionCode};
 ghost use Rattle.rules.specs.Lent.{old, new};
 ghost use Rattle.table.specs.Lent.{oldColumns, newColumns};
-use codes::count_code;
 use codes::decision_code;
 use codes::order_code;
-use codes::written_code;
-use grant::decide;
+use counts::counted_code;
+use counts::written_code;
+use decide::decide;
+use fresh::fresh;
+use load::read;
+use order::order;
 use refine::refine;
-use stored::read;
-use stored::store;
-use table::fresh;
-use table::order;
+use store::store;
 
 // A fresh table: row 0 is the group at (1, 1) with the quota.
 #[no_mangle]
@@ -37,7 +37,7 @@ pub extern "C" fn zintukor_fresh(
     ensures { λ t. ⌜ t ≡ countCode (counted (freshRows (oldColumns id l r q) group quota)) ⌝ }
     ensures { λ t. ⌜ newColumns id l r q ≡ afterwards (freshRows (oldColumns id l r q) group quota) (oldColumns id l r q) ⌝ }
 {
-    count_code(fresh(id, l, r, q, group, quota))
+    counted_code(fresh(id, l, r, q, group, quota))
 }
 
 // Explodes a group as the request's bytes say.
@@ -53,7 +53,7 @@ pub extern "C" fn zintukor_refine(
     ensures { λ t. ⌜ t ≡ countCode (counted (refined (oldColumns id l r q) count (old request))) ⌝ }
     ensures { λ t. ⌜ newColumns id l r q ≡ afterwards (refined (oldColumns id l r q) count (old request)) (oldColumns id l r q) ⌝ }
 {
-    count_code(refine(id, l, r, q, count, request))
+    counted_code(refine(id, l, r, q, count, request))
 }
 
 // The order of two groups.
@@ -108,5 +108,5 @@ pub extern "C" fn zintukor_read(
     ensures { λ t. ⌜ t ≡ countCode (counted (readRows (oldColumns id l r q) (old bytes))) ⌝ }
     ensures { λ t. ⌜ newColumns id l r q ≡ afterwards (readRows (oldColumns id l r q) (old bytes)) (oldColumns id l r q) ⌝ }
 {
-    count_code(read(id, l, r, q, bytes))
+    counted_code(read(id, l, r, q, bytes))
 }

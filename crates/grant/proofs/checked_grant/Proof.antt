@@ -1,37 +1,15 @@
 -- `grant::checked_grant` meets its contract.
-use borrow.Author.Tests.{eq-eqb, ne-eqb, lt-ltb, le-ltb}
-use Rattle.grant.specs.Grant.{checkedGrant, grantBad}
+use mathlib.Core.Path.{sym, _∙_}
+use Rattle.grant.specs.Grant.{checkedGrant}
+use borrow.Author.Needs.{needs}
 use Rattle.grant.proofs.checked_grant.Statement.{statement}
 use Rattle.grant.proofs.checked_grant.Tie as tie
 
-returns : tie.Need-returns
-unfolding checkedGrant grantBad
-returns c = rw (eq-eqb _ _ (c .if1 .taken))
-
-returns-2 : tie.Need-returns-2
-unfolding checkedGrant grantBad
-returns-2 c = rw (ne-eqb _ _ (c .before .if1 .left), eq-eqb _ _ (c .if2 .taken))
-
-returns-3 : tie.Need-returns-3
-unfolding checkedGrant grantBad
-returns-3 c = rw (ne-eqb _ _ (c .before .before .if1 .left), ne-eqb _ _ (c .before .if2 .left), eq-eqb _ _ (c .if3 .taken))
-
-returns-4 : tie.Need-returns-4
-unfolding checkedGrant grantBad
-returns-4 c = rw (ne-eqb _ _ (c .before .before .before .if1 .left), ne-eqb _ _ (c .before .before .if2 .left), ne-eqb _ _ (c .before .if3 .left), eq-eqb _ _ (c .if4 .taken))
-
-returns-5 : tie.Need-returns-5
-unfolding checkedGrant grantBad
-returns-5 c = rw (ne-eqb _ _ (c .before .before .before .before .if1 .left), ne-eqb _ _ (c .before .before .before .if2 .left), ne-eqb _ _ (c .before .before .if3 .left), ne-eqb _ _ (c .before .if4 .left), eq-eqb _ _ (c .if5 .taken))
-
-returns-6 : tie.Need-returns-6
-unfolding checkedGrant grantBad
-returns-6 c = rw (ne-eqb _ _ (c .before .before .before .before .before .if1 .left), ne-eqb _ _ (c .before .before .before .before .if2 .left), ne-eqb _ _ (c .before .before .before .if3 .left), ne-eqb _ _ (c .before .before .if4 .left), ne-eqb _ _ (c .before .if5 .left), lt-ltb _ _ (c .if6 .taken))
-
-returns-7 : tie.Need-returns-7
-unfolding checkedGrant grantBad
-returns-7 c = rw (ne-eqb _ _ (c .before .before .before .before .before .if1 .left), ne-eqb _ _ (c .before .before .before .before .if2 .left), ne-eqb _ _ (c .before .before .before .if3 .left), ne-eqb _ _ (c .before .before .if4 .left), ne-eqb _ _ (c .before .if5 .left), le-ltb _ _ (c .if6 .left))
-
 pub checked-grant-spec : {M : Type 1} → statement M
+unfolding checkedGrant
 checked-grant-spec =
-    tie.close (tie.spec returns returns-2 returns-3 returns-4 returns-5 returns-6 returns-7)
+    tie.close
+    (tie.spec
+    (λ c κs. search needs)
+    (λ c. rw (sym (c .before .grant-bad .ensures) ∙ c .if1 .taken))
+    (λ c. rw (sym (c .before .grant-bad .ensures) ∙ c .if1 .left)))

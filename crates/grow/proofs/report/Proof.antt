@@ -1,7 +1,7 @@
 -- `grow::report` is safe: the text that was written lies within its buffer.
 use mathlib.Core.Path.{sym, _∙_}
 use native.Mathlib.Omega.{arith}
-use Rattle.growth.proofs.Room.{grow-within}
+use Rattle.replay.proofs.Room.{grow-within}
 use borrow.Author.Needs.{needs}
 use Rattle.grow.proofs.report.Statement.{statement}
 use Rattle.grow.proofs.report.Tie as tie

@@ -1,6 +1,6 @@
 -- `number::later_groups` meets its contract. The loop's invariant: what is left to read makes the whole number.
 use mathlib.Core.Path.{_∙_}
-use Prim.Native.Nat.{_-_, _<_}
+use Prim.Native.Nat.{ℕ, _-_, _<_}
 use lib.ListN.{getD}
 use denote.Ref.{now}
 use native.Mathlib.Omega.{arith}
@@ -14,22 +14,25 @@ Inv-loop bytes at low i₀ unit₀ sum₀ i unit sum = Later bytes at low i unit
 abbrev μ-loop : tie.MeasureT-loop
 μ-loop bytes at low i₀ unit₀ sum₀ i unit sum = 268435456 - unit
 
+-- the loop's test, from the places after the branch on the byte
+abbrev at-loop : tie.Else2 Inv-loop μ-loop → tie.At-loop Inv-loop μ-loop
+at-loop c = c .before .before .before .before
+
+abbrev byte-at : tie.At-loop Inv-loop μ-loop → ℕ
+byte-at a = getD (now (a .before .before .args .bytes)) (a .loop .i) 0
+
 -- a byte is below 256
-byte : (c : tie.Else2 Inv-loop μ-loop) → getD (now (c .before .before .before .before .before .before .args .bytes)) (c .before .before .before .before .loop .i) 0 < 256
-byte c = omega (arith, c .before .shared-slice-known2 .given (c .before .before .before .before .loop .i))
+byte : (c : tie.Else2 Inv-loop μ-loop) → byte-at (at-loop c) < 256
+byte c = omega (arith, c .before .shared-slice-known2 .given (at-loop c .loop .i))
 
 -- what a last group is worth, and one that another follows
-last-worth : (c : tie.Else3 Inv-loop μ-loop)
-    → Worth (getD (now (c .before .before .before .before .before .before .before .args .bytes)) (c .before .before .before .before .before .loop .i) 0) (c .before .before .before .before .before .loop .unit) (c .before .before .before .before .before .loop .sum)
+last-worth : (c : tie.Else3 Inv-loop μ-loop) → let a = c .before .before .before .before .before in Worth (byte-at a) (a .loop .unit) (a .loop .sum)
 last-worth c =
     let l = c .before .before .before .before .before .loop .inv in
     worth (c .before .if2 .taken) (l .small) (unit-low l (c .before .before .before .before .loop-test .taken))
 
-more-worth : (c : tie.Else2 Inv-loop μ-loop)
-    → Worth (getD (now (c .before .before .before .before .before .before .args .bytes)) (c .before .before .before .before .loop .i) 0 - 128) (c .before .before .before .before .loop .unit) (c .before .before .before .before .loop .sum)
-more-worth c =
-    let l = c .before .before .before .before .loop .inv in
-    worth (omega (arith, byte c)) (l .small) (unit-low l (c .before .before .before .loop-test .taken))
+more-worth : (c : tie.Else2 Inv-loop μ-loop) → let a = at-loop c in Worth (byte-at a - 128) (a .loop .unit) (a .loop .sum)
+more-worth c = let l = at-loop c .loop .inv in worth (omega (arith, byte c)) (l .small) (unit-low l (c .before .before .before .loop-test .taken))
 
 pub later-groups-spec : {M : Type 1} → statement M
 later-groups-spec =

@@ -6,7 +6,7 @@ use native.Mathlib.Omega.{arith}
 use lib.ListN.{getD}
 use borrow.Author.Needs.{needs}
 use denote.Ref.{now}
-use Rattle.number.specs.Number.{numberAt, followed, above, groupsAt}
+use Rattle.number.specs.Number.{numberAt, followed, addedTo, bitGroupsAt}
 use Rattle.number.proofs.Groups.{short, last, more, last-only}
 use Rattle.number.proofs.number_at.Statement.{statement}
 use Rattle.number.proofs.number_at.Tie as tie
@@ -32,7 +32,7 @@ returns-3 c =
     let b = getD (now (a .bytes)) (a .at) 0 in
     let low : b - 128 ≡ b % 128 = omega (arith, group (c .before)) in
     c .later-groups .ensures
-    ∙ ap (λ v. above v 128 (groupsAt 3 false (now (a .bytes)) (a .at + 1))) low
+    ∙ ap (λ v. addedTo v 128 (bitGroupsAt 3 false (now (a .bytes)) (a .at + 1))) low
     ∙ sym (more (now (a .bytes)) (a .at) 3 true (omega arith) (c .before .if2 .left))
 
 pub number-at-spec : {M : Type 1} → statement M

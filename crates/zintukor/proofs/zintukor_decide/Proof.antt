@@ -1,6 +1,6 @@
 -- `zintukor::zintukor_decide` meets its contract: the engine's answer, encoded.
 use mathlib.Core.Path.{ap, _∙_}
-use Rattle.zintukor.specs.Codes.{decisionCode}
+use Rattle.codes.specs.Codes.{decisionCode}
 use borrow.Author.Needs.{needs}
 use Rattle.zintukor.proofs.zintukor_decide.Statement.{statement}
 use Rattle.zintukor.proofs.zintukor_decide.Tie as tie

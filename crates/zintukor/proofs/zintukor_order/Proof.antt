@@ -1,6 +1,6 @@
 -- `zintukor::zintukor_order` meets its contract: the engine's answer, encoded.
 use mathlib.Core.Path.{ap, _∙_}
-use Rattle.zintukor.specs.Codes.{orderCode}
+use Rattle.codes.specs.Codes.{orderCode}
 use borrow.Author.Needs.{needs}
 use Rattle.zintukor.proofs.zintukor_order.Statement.{statement}
 use Rattle.zintukor.proofs.zintukor_order.Tie as tie

@@ -1,6 +1,6 @@
 -- `zintukor::zintukor_store` meets its contract: the engine's answer, encoded.
 use mathlib.Core.Path.{ap, _∙_}
-use Rattle.zintukor.specs.Codes.{countCode}
+use Rattle.codes.specs.Codes.{countCode}
 use Rattle.zintukor.proofs.Bounds.{store-small}
 use borrow.Author.Needs.{needs}
 use Rattle.zintukor.proofs.zintukor_store.Statement.{statement}

@@ -108,7 +108,8 @@ module _ {M : Type 1} (𝓤 : URA M) (H : Heap 𝓤) (A : Atoms 𝓤) (W : Given
   apart fits =
       qed W ((‵ (flft κ q) ⊛ ‵ ftrue) ∷ ‵ (owns (row (κ, tt) ∷ []) (d, tt) (mach ∷ [], tt)) ∷ []) ∵
       move ! (1 ∷ []) $ fsplit ! $ move ! (1 ∷ []) $ drop ! $ use1 W (‵ Own ⊛ ‵ Own) (copied 𝓤 H A W (κ, tt) .twice d (mach ∷ [])) $ split ! $
-      use1 W (given (mach ∷ [] ≡ mach ∷ []) (‵ (all-own (D .parts) L vd))) (own-open 𝓤 H A W D L vd mach) $ learn ! (λ _. use1 W (‵ (ownAt (D .parts) L 0 (d .bytes)) ⊛ ‵ (rest (D .parts) L 0 vd)) (own-out 𝓤 H A W (D .parts) L 0 vd) $ split ! $
+      use1 W (given (mach ∷ [] ≡ mach ∷ []) (‵ (all-own (D .parts) L vd))) (own-open 𝓤 H A W D L vd mach) $
+      learn ! (λ _. use1 W (‵ (ownAt (D .parts) L 0 (d .bytes)) ⊛ ‵ (rest (D .parts) L 0 vd)) (own-out 𝓤 H A W (D .parts) L 0 vd) $ split ! $
       -- [what bytes owns; what at owns; what the struct owns; the token]
       move ! (1 ∷ []) $ drop ! $ nothing ! $ owned ! usize (Is usize) (uint-makes 𝓤 H A W w64) (d .at) _ (refl, fits) $ fjoin ! $ move ! (1 ∷ 0 ∷ []) $ fjoin ! $
       move ! (2 ∷ 0 ∷ []) $ use2 W (raw (NumberAt 𝓤 H A mem run .pre to)) asked $ frame ! $ done !)
@@ -132,7 +133,8 @@ module _ {M : Type 1} (𝓤 : URA M) (H : Heap 𝓤) (A : Atoms 𝓤) (W : Given
         assigns ! (of-opd ! (load ! (from ! (fld ! refl (stop !))) (look-in ! 4 (sub ! 1 refl (whole !))))) (from ! (stop !)) (init ! 0 refl (tt, wt .1 .1 .0)) $
         move ! (8 ∷ []) $ use1 W (raw (NumberAt 𝓤 H A mem run .pre to) ⊛ ‵ Own) (apart (wt .1 .1 .0 .fits)) $ split ! $
         calls-at ! fm (NumberAt 𝓤 H A mem run) known to (and-then ! (load ! (from ! (stop !)) (look ! 4 refl)) (and-then ! (load ! (from ! (stop !)) (look ! 2 refl)) (no-more !))) (λ u.
-        use1 W (later (some (λ (r : Drawn). ((‵ (flft κ q) ⊛ ‵ ftrue) ⊛ ‵ (S.the-row .own r (u ∷ []))) ⊛ raw (ensured 𝓤 H A number-at.ended (number-at.clauses 𝓤 H A mem run) (κ, tt) (d .bytes, (d .at, tt)) tt r)))) (id⊢ 𝓤 _) $ await ! tt $ pick ! (λ r.
+        use1 W (later (some (λ (r : Drawn). ((‵ (flft κ q) ⊛ ‵ ftrue) ⊛ ‵ (S.the-row .own r (u ∷ []))) ⊛ raw
+        (ensured 𝓤 H A number-at.ended (number-at.clauses 𝓤 H A mem run) (κ, tt) (d .bytes, (d .at, tt)) tt r)))) (id⊢ 𝓤 _) $ await ! tt $ pick ! (λ r.
         split ! $ move ! (1 ∷ []) $ use1 W (raw (fact 𝓤 (drawnSays r ≡ found))) (said r) $ heard ! (drawnSays r ≡ found) (λ e. split ! $ move ! (1 ∷ []) $
         -- [the result; the token; what the struct owns; _3; …; _2; …; _1; …; room for _0; …]
         peeks ! S.the-row (Is S.the-row) (shows 𝓤 H A S.the-row) r (u ∷ []) (λ is.
@@ -143,13 +145,15 @@ module _ {M : Type 1} (𝓤 : URA M) (H : Heap 𝓤) (A : Atoms 𝓤) (W : Given
 module _ {M : Type 1} (𝓤 : URA M) (H : Heap 𝓤) (A : Atoms 𝓤) (W : Given 𝓤 H A) (mem : Memory → SProp 𝓤) (run : Routine → Fun 𝓤) where
   draw-walks : (C : Calls 𝓤 H) (Λ : Loops 𝓤 H) → FmC 𝓤 H (W .laws) C → Triple 𝓤 (C #number·number-at) (NumberAt 𝓤 H A mem run)
       → Walks 𝓤 H A draw.ended stayed (WpFn 𝓤 H C Λ code.function) (draw.clauses 𝓤 H A mem run)
-  draw-walks C Λ fm known = walked 𝓤 H A draw.ended stayed (draw.clauses 𝓤 H A mem run) (WpFn 𝓤 H C Λ code.function) (λ κs. (LL.vals (shape κs) (laws κs), tt)) (λ κs. (LL.tells (shape κs) (laws κs), tt))
+  draw-walks C Λ fm known = walked 𝓤 H A draw.ended stayed (draw.clauses 𝓤 H A mem run) (WpFn 𝓤 H C Λ code.function) (λ κs. (LL.vals (shape κs) (laws κs), tt))
+      (λ κs. (LL.tells (shape κs) (laws κs), tt))
       (λ κs qs bounds a g are. via 𝓤 _ (fst∗ 𝓤 _ (emp 𝓤)) (walk 𝓤 H A W mem run (κs .0) (qs .0) (a .0) C Λ fm known (LL.lawful (shape κs) (laws κs) 𝓤 H A W .typed (a .0) _ (are .0) .0)))
 
 draw-meets : {M : Type 1} (𝓤 : URA M) (H : Heap 𝓤) (A : Atoms 𝓤) (W : Given 𝓤 H A) (mem : Memory → SProp 𝓤) (run : Routine → Fun 𝓤) (𝓣 : Tables 𝓤 H)
     → Triple 𝓤 (𝓣 .C #number·number-at) (NumberAt 𝓤 H A mem run)
     → Meets 𝓤 H A draw.signature (WpFn 𝓤 H (𝓣 .C) (𝓣 .Λ) code.function) (draw.spec 𝓤 H A mem run)
-draw-meets 𝓤 H A W mem run 𝓣 known-number-at = walk-meets 𝓤 H A draw.ended stayed W (goes-none 𝓤 H A W 1 row yes (λ κs x f. refl), tt) (draw.clauses 𝓤 H A mem run) (WpFn 𝓤 H (𝓣 .C) (𝓣 .Λ) code.function) (WpFn-mono 𝓤 H (W .laws) 𝓣 code.function)
+draw-meets 𝓤 H A W mem run 𝓣 known-number-at = walk-meets 𝓤 H A draw.ended stayed W (goes-none 𝓤 H A W 1 row yes (λ κs x f. refl), tt) (draw.clauses 𝓤 H A mem run)
+    (WpFn 𝓤 H (𝓣 .C) (𝓣 .Λ) code.function) (WpFn-mono 𝓤 H (W .laws) 𝓣 code.function)
     (draw-walks 𝓤 H A W mem run (𝓣 .C) (𝓣 .Λ) (fmOf 𝓤 H (W .laws) 𝓣) known-number-at)
 
 pub draw-spec : {M : Type 1} → stated.statement M

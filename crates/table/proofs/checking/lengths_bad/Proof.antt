@@ -1,32 +1,11 @@
--- `table::checking::lengths_bad` meets its contract: each test is one of the definition's.
-use borrow.Author.Tests.{eq-eqb, ne-eqb, lt-ltb, le-ltb}
+-- `table::checking::lengths_bad` meets its contract.
 use Rattle.table.specs.Check.{lengthsBad}
+use borrow.Author.Needs.{needs}
 use Rattle.table.proofs.checking.lengths_bad.Statement.{statement}
 use Rattle.table.proofs.checking.lengths_bad.Tie as tie
 
-returns : tie.Need-returns
-unfolding lengthsBad
-returns c = rw (ne-eqb _ _ (c .if1 .taken))
-
-returns-2 : tie.Need-returns-2
-unfolding lengthsBad
-returns-2 c = rw (eq-eqb _ _ (c .before .if1 .left), ne-eqb _ _ (c .if2 .taken))
-
-returns-3 : tie.Need-returns-3
-unfolding lengthsBad
-returns-3 c = rw (eq-eqb _ _ (c .before .before .if1 .left), eq-eqb _ _ (c .before .if2 .left), ne-eqb _ _ (c .if3 .taken))
-
-returns-4 : tie.Need-returns-4
-unfolding lengthsBad
-returns-4 c = rw (eq-eqb _ _ (c .before .before .before .if1 .left), eq-eqb _ _ (c .before .before .if2 .left), eq-eqb _ _ (c .before .if3 .left), eq-eqb _ _ (c .if4 .taken))
-
-returns-5 : tie.Need-returns-5
-unfolding lengthsBad
-returns-5 c = rw (eq-eqb _ _ (c .before .before .before .before .if1 .left), eq-eqb _ _ (c .before .before .before .if2 .left), eq-eqb _ _ (c .before .before .if3 .left), ne-eqb _ _ (c .before .if4 .left), lt-ltb _ _ (c .if5 .taken))
-
-returns-6 : tie.Need-returns-6
-unfolding lengthsBad
-returns-6 c = rw (eq-eqb _ _ (c .before .before .before .before .if1 .left), eq-eqb _ _ (c .before .before .before .if2 .left), eq-eqb _ _ (c .before .before .if3 .left), ne-eqb _ _ (c .before .if4 .left), le-ltb _ _ (c .if5 .left))
-
 pub lengths-bad-spec : {M : Type 1} → statement M
-lengths-bad-spec = tie.close (tie.spec returns returns-2 returns-3 returns-4 returns-5 returns-6)
+unfolding lengthsBad
+lengths-bad-spec =
+    tie.close
+    (tie.spec (λ c. search needs))

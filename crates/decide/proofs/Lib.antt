@@ -1,0 +1,3 @@
+mod Tallies
+pub mod Outcome
+pub mod RoundTrip

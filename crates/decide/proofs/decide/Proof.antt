@@ -1,0 +1,63 @@
+-- `decide::decide` meets its contract. The loop's invariant: what is still to be read, with the tally so far, gives what is decided on the whole.
+use mathlib.Core.Path.{_≡_, ap, sym, _∙_}
+use Prim.Native.Nat.{_-_, _≤_}
+use native.Mathlib.Omega.{arith}
+use lib.ListN.{length}
+use borrow.Author.Needs.{needs}
+use Rattle.grant.specs.Says.{grantSays}
+use Rattle.grant.proofs.Listing.{grant-stands}
+use Rattle.decide.specs.Decision.{decided}
+use Rattle.decide.proofs.Outcome.{outcome, outcome-ends, outcome-refused, outcome-applies, outcome-other, outcome-decided}
+use Rattle.decide.proofs.decide.Statement.{statement}
+use Rattle.decide.proofs.decide.Tie as tie
+
+abbrev Inv-loop : tie.InvT-loop
+Inv-loop feature l r day grants t₀ at₀ t at = (at ≤ length grants) × (outcome feature l r day grants at t ≡ decided feature l r day grants)
+
+abbrev μ-loop : tie.MeasureT-loop
+μ-loop feature l r day grants t₀ at₀ t at = length grants - at
+
+returns : tie.Need-returns Inv-loop μ-loop
+unfolding decided
+returns c = rw (sym (c .before .question-bad .ensures) ∙ c .if1 .taken)
+
+pub decide-spec : {M : Type 1} → statement M
+decide-spec =
+    tie.close
+    (tie.spec
+    Inv-loop
+    μ-loop
+    (λ c κs. search needs)
+    returns
+    (λ c. (omega arith, outcome-decided _ _ _ _ _ (sym (c .before .question-bad .ensures) ∙ c .if1 .left)))
+    (λ c κs. search needs) (λ c. search needs)
+    (λ c.
+    let a = c .before .before .before in
+    let i = a .before .before .loop in
+    let e = sym (a .grant-at .ensures) ∙ ap grantSays (c .before .why .given .1) in
+    sym (outcome-refused _ _ _ _ _ (i .at) (i .t) (a .before .loop-test .taken) e) ∙ i .inv .1)
+    (λ c. search needs) (λ c κs. search needs) (λ c κs. search needs)
+    (λ c.
+    let g = c .before .before .before .before in
+    let s = grant-stands _ _ (sym (g .before .before .grant-at .ensures) ∙ ap grantSays (g .g .given .1)) in
+    omega (arith, s .starts, s .ends))
+    (λ c.
+    let g = c .before .before .before .before in
+    let a = g .before .before in
+    let i = a .before .before .loop in
+    let e = sym (a .grant-at .ensures) ∙ ap grantSays (g .g .given .1) in
+    let y = sym (c .before .before .applies .ensures) ∙ c .before .if2 .taken in
+    (grant-stands _ _ e .ends, rw (c .count-in .ensures) (sym (outcome-applies _ _ _ _ _ (i .at) (i .t) (a .before .loop-test .taken) e y) ∙ i .inv .1)))
+    (λ c.
+    let g = c .before .before .before in
+    let s = grant-stands _ _ (sym (g .before .before .grant-at .ensures) ∙ ap grantSays (g .g .given .1)) in
+    omega (arith, s .starts, s .ends))
+    (λ c.
+    let g = c .before .before .before in
+    let a = g .before .before in
+    let i = a .before .before .loop in
+    let e = sym (a .grant-at .ensures) ∙ ap grantSays (g .g .given .1) in
+    let n = sym (c .before .applies .ensures) ∙ c .if2 .left in
+    (grant-stands _ _ e .ends, sym (outcome-other _ _ _ _ _ (i .at) (i .t) (a .before .loop-test .taken) e n) ∙ i .inv .1))
+    (λ c κs. search needs)
+    (λ c. let i = c .before .before .loop in c .decision-of .ensures ∙ sym (outcome-ends _ _ _ _ _ (i .at) (i .t) (c .before .loop-test .left)) ∙ i .inv .1))

@@ -1,0 +1,4 @@
+pub mod Dating
+pub mod Decision
+pub mod Says
+pub mod inside

@@ -1,0 +1,14 @@
+-- The number and the values of document 01 for each case of the answer.
+use Rattle.rules.specs.Answers.{Answer, answer, refused}
+use Rattle.rules.specs.Refusals.{refusalNumber}
+use Rattle.decide.specs.Dating.{Decision, onOpen, onUntil, ended, ahead, never}
+use Rattle.decide.specs.declared.Decided.{Decided}
+use Rattle.decide.specs.declared.Decided.the-variants as decided
+
+abbrev pub decidedSays : Decided → Answer Decision
+decidedSays decided.OnOpen = answer onOpen
+decidedSays (decided.OnUntil day) = answer (onUntil day)
+decidedSays (decided.Ended day) = answer (ended day)
+decidedSays (decided.Ahead day) = answer (ahead day)
+decidedSays decided.Never = answer never
+decidedSays (decided.Refused why) = refused (refusalNumber why)

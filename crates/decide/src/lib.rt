@@ -1,0 +1,89 @@
+// The decision on a feature for a pass (document 01, "Grants and decisions"): the grants are read, matched, and their windows dated.
+mod dating;
+
+ghost use mathlib.Core.Path.{_≡_};
+ghost use Rattle.rules.specs.Lent.{old};
+ghost use Rattle.decide.specs.Decision.{questionBad, decided, asked};
+ghost use Rattle.decide.specs.Says.{decidedSays};
+use boxes::LValue;
+use boxes::RValue;
+use dating::Tally;
+use dating::count_in;
+use dating::decision_of;
+use grant::GrantDrawn;
+use grant::grant_at;
+use matching::applies;
+use number::Drawn;
+use number::number_at;
+use rules::Refusal;
+
+// What is decided on a feature.
+pub enum Decided {
+    // On, and without an end.
+    OnOpen,
+    // On, and the last day.
+    OnUntil(u32),
+    // Ended, and the last day.
+    Ended(u32),
+    // Yet to begin, and the first day.
+    Ahead(u32),
+    Never,
+    Refused(Refusal),
+}
+
+// 15: feature, pass l or r, or day is 0.
+fn question_bad(feature: u32, l: u32, r: u32, day: u32) -> bool
+    ensures { λ t. ⌜ t ≡ questionBad feature l r day ⌝ }
+{
+    (feature == 0) | ((l == 0) | ((r == 0) | (day == 0)))
+}
+
+// The decision on a feature for a pass (l, r) and a day: 15, then the whole list from left to right (1, 2, 14).
+// One pass over the bytes, with any number of grants.
+pub fn decide(feature: u32, l: u32, r: u32, day: u32, grants: &[u8]) -> Decided
+    ensures { λ t. ⌜ decidedSays t ≡ decided feature l r day (old grants) ⌝ }
+{
+    if question_bad(feature, l, r, day) {
+        return Decided::Refused(Refusal::Question);
+    }
+    let mut t = Tally {
+        endless: false,
+        on: 0,
+        over: 0,
+        coming: 0,
+    };
+    let mut at = 0;
+    while at < grants.len() {
+        match grant_at(grants, at) {
+            GrantDrawn::Refused(why) => {
+                return Decided::Refused(why);
+            }
+            GrantDrawn::Grant(g, next) => {
+                if applies(feature, LValue(l as u64), RValue(r as u64), g) {
+                    t = count_in(day, t, g.first, g.last);
+                }
+                at = next;
+            }
+        }
+    }
+    decision_of(t)
+}
+
+// A question in bytes: feature, l, r and day (1 or 2 for a bad one, then 15), then a grant list.
+pub fn question(bytes: &[u8]) -> Decided
+    ensures { λ t. ⌜ decidedSays t ≡ asked (old bytes) ⌝ }
+{
+    match number_at(bytes, 0) {
+        Drawn::Refused(why) => Decided::Refused(why),
+        Drawn::Number(feature, l_at) => match number_at(bytes, l_at) {
+            Drawn::Refused(why) => Decided::Refused(why),
+            Drawn::Number(l, r_at) => match number_at(bytes, r_at) {
+                Drawn::Refused(why) => Decided::Refused(why),
+                Drawn::Number(r, day_at) => match number_at(bytes, day_at) {
+                    Drawn::Refused(why) => Decided::Refused(why),
+                    Drawn::Number(day, at) => decide(feature, l, r, day, &bytes[at..]),
+                },
+            },
+        },
+    }
+}

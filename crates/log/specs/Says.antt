@@ -1,0 +1,16 @@
+-- The number and the values of document 01 for each case of the answers.
+use Rattle.rules.specs.Answers.{Answer, answer, refused}
+use Rattle.rules.specs.Refusals.{refusalNumber}
+use Rattle.log.specs.Log.{Pair, Part}
+use Rattle.log.specs.declared.PairRead.{PairRead}
+use Rattle.log.specs.declared.PairRead.the-variants as pair
+use Rattle.log.specs.declared.PartRead.{PartRead}
+use Rattle.log.specs.declared.PartRead.the-variants as part
+
+abbrev pub pairSays : PairRead → Answer Pair
+pairSays (pair.Pair id quota next) = answer (record { id = id; quota = quota; next = next })
+pairSays (pair.Refused why) = refused (refusalNumber why)
+
+abbrev pub partSays : PartRead → Answer Part
+partSays (part.Part start end) = answer (record { start = start; end = end })
+partSays (part.Refused why) = refused (refusalNumber why)

@@ -1,0 +1,24 @@
+-- Which grants apply, and their days (document 01, "Grants and decisions"). What "applies" means is a parameter of `windows`, so that a
+-- pass's numbers and the ledger's order share it.
+use Prim.Native.Nat.{ℕ}
+use mathlib.Core.Bool.{Bool, cond, _&&_}
+use mathlib.Core.List.{List, [], _∷_}
+use lib.Dec.{eqb, leb}
+use Rattle.grant.specs.Grant.{Grant}
+
+-- A grant applies to a pass (l, r) and feature when the features are equal and pass l ≤ grant l and pass r ≤ grant r
+unfoldable pub appliesTo : (feature l r : ℕ) → Grant → Bool
+appliesTo feature l r g = eqb (g .feature) feature && (leb l (g .l) && leb r (g .r))
+
+-- the days of a grant
+pub record Window : Type 0 where
+  pub first : ℕ
+  pub last : ℕ
+
+abbrev pub window : Grant → Window
+window g = record { first = g .first; last = g .last }
+
+-- the days of those that apply, in list order
+unfoldable pub windows : {A : Type 0} → (days : A → Window) (applies : A → Bool) → List A → List Window
+windows days applies [] = []
+windows days applies (g ∷ gs) = cond (applies g) (days g ∷ windows days applies gs) (windows days applies gs)

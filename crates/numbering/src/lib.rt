@@ -1,0 +1,5 @@
+// Numbering: a request's entries are read, and each is given its offsets in L and in R.
+mod requests;
+mod trees;
+
+pub use requests::number_request;

@@ -1,0 +1,37 @@
+-- Every case of the table is right: one computation over the whole of it.
+use mathlib.Core.Path.{_≡_, refl}
+use mathlib.Core.List.{map, flatMap}
+use Rattle.number.specs.Number.{numberAt, bitGroupsAt, lastByte, followed, addedTo, bytesOf, bitGroupsOf}
+use Rattle.boxes.specs.Boxes.{apart}
+use Rattle.table.specs.Columns.{rowsFrom, put}
+use Rattle.table.specs.Check.{someRow, somePair, lengthsBad, countBad, valueBad, sameId, rangesMeet, soundRows, checked}
+use Rattle.fresh.specs.Fresh.{freshRows}
+use Rattle.order.specs.Order.{subgroup, orderBy, rowOf, orderIn, order}
+use Rattle.request.specs.Entries.{someEntry}
+use Rattle.request.specs.Reading.{positiveAt, entryAt, treesBy, treeBy, notFull, treesAt, directionOf, requestOf}
+use Rattle.request.specs.Acceptance.{accepted}
+use Rattle.refine.specs.Refine.{refineRows, explodedRows, refined}
+use Rattle.grant.specs.Grant.{grantBad, checkedGrant, grantAt, grantsFrom, grantsOf, grantBytes, grantsBytes}
+use Rattle.matching.specs.Matching.{windows, appliesTo}
+use Rattle.decide.specs.Dating.{isOpen, runs, hasEnded, yetToBegin, those, someOpen, greatestLast, leastFirst, tried, dated}
+use Rattle.decide.specs.Decision.{questionBad, decided}
+use Rattle.ledger.specs.Ledger.{freshLedger, acceptedBy, isOther, staysBelow, belowEntries, aboveEntries, itself, byTrees, orderAfter, replace, explodedLedger, ledgerRefined, ledgerOrder}
+use Rattle.ledger.specs.Calls.{engineReply, engineAfter, engineReplies, engineEnd, engineStart, ledgerReply, ledgerAfter, ledgerReplies, ledgerEnd}
+use Rattle.text.specs.Decimal.{digits, decimal}
+use Rattle.log.specs.Log.{pairOf, partAt, partThen, requestsFrom, requestsAt}
+use Rattle.lines.specs.Lines.{fieldText, lineText, headingText, rowText, tableText}
+use Rattle.replay.specs.Run.{answersTo, tableEnd}
+use Rattle.replay.specs.Replay.{endText, replayFrom, replayOf, textOf}
+use Rattle.proved_cases.specs.Cases.{computed, stated}
+use Rattle.proved_cases.specs.Table.{cases, besideRequest, uprightRequest, invertedRequest, first9, second9, third9, fourth9, log9, lines9, rows9, calls9, replies9}
+
+pub cases-right : map computed cases ≡ map stated cases
+unfolding cases besideRequest uprightRequest invertedRequest first9 second9 third9 fourth9 log9 lines9 rows9 calls9 replies9 numberAt bitGroupsAt lastByte
+    followed addedTo bytesOf bitGroupsOf rowsFrom put someRow somePair lengthsBad countBad valueBad sameId rangesMeet apart soundRows checked freshRows
+    subgroup orderBy rowOf orderIn order grantBad checkedGrant grantAt grantsFrom grantsOf grantBytes grantsBytes windows appliesTo isOpen runs hasEnded
+    yetToBegin those someOpen greatestLast leastFirst tried dated questionBad decided positiveAt entryAt treesBy treeBy notFull treesAt directionOf requestOf someEntry
+    accepted refineRows explodedRows refined engineReply engineAfter engineReplies engineEnd engineStart freshLedger acceptedBy isOther staysBelow
+    belowEntries aboveEntries itself byTrees orderAfter replace explodedLedger ledgerRefined ledgerOrder ledgerReply ledgerAfter ledgerReplies ledgerEnd
+    digits decimal fieldText lineText headingText rowText tableText flatMap pairOf partAt partThen requestsFrom requestsAt answersTo
+    tableEnd endText replayFrom replayOf textOf
+cases-right = refl

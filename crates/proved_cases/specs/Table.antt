@@ -1,0 +1,145 @@
+-- The cases that document 01 marks P, in its order.
+use Prim.Native.Nat.{ℕ}
+use Prim.Native.String.{String}
+use mathlib.Core.List.{List, [], _∷_, _++_}
+use Rattle.rules.specs.Answers.{answer, refused}
+use Rattle.table.specs.Columns.{Row}
+use Rattle.order.specs.Order.{Order, same, first, second, incomparable}
+use Rattle.grant.specs.Grant.{grant}
+use Rattle.decide.specs.Dating.{onOpen, onUntil, ended, ahead, never}
+use Rattle.ledger.specs.Calls.{Call, refine, order, Reply, refineSays, orderSays}
+use Rattle.proved_cases.specs.Cases.{Case, stored, made, grown, logged, asked, row, stream}
+
+-- a request by its numbers
+abbrev pub request : List ℕ → Call
+request numbers = refine (stream numbers)
+
+-- refine's answers, and order's
+abbrev pub count : ℕ → Reply
+count n = refineSays (answer n)
+
+abbrev pub no : ℕ → Reply
+no n = refineSays (refused n)
+
+abbrev pub says : Order → Reply
+says o = orderSays (answer o)
+
+abbrev pub unknown : Reply
+unknown = orderSays (refused 20)
+
+-- groups 1 and 2 of quota 1 side by side; 2 under 1 in one tree, upright and inverted
+unfoldable pub besideRequest : List ℕ
+besideRequest = 1 ∷ 0 ∷ 2 ∷ 1 ∷ 1 ∷ 0 ∷ 2 ∷ 1 ∷ 0 ∷ []
+
+unfoldable pub uprightRequest : List ℕ
+uprightRequest = 1 ∷ 0 ∷ 1 ∷ 1 ∷ 1 ∷ 1 ∷ 2 ∷ 1 ∷ 0 ∷ []
+
+unfoldable pub invertedRequest : List ℕ
+invertedRequest = 1 ∷ 1 ∷ 1 ∷ 1 ∷ 1 ∷ 1 ∷ 2 ∷ 1 ∷ 0 ∷ []
+
+-- the four requests of the program grow's example
+unfoldable pub first9 : List ℕ
+first9 = 1 ∷ 0 ∷ 1 ∷ 1 ∷ 5 ∷ 1 ∷ 2 ∷ 90 ∷ 1 ∷ 5 ∷ 5 ∷ 0 ∷ []
+
+unfoldable pub second9 : List ℕ
+second9 = 2 ∷ 0 ∷ 3 ∷ 2 ∷ 15 ∷ 0 ∷ 3 ∷ 15 ∷ 0 ∷ 4 ∷ 60 ∷ 0 ∷ []
+
+unfoldable pub third9 : List ℕ
+third9 = 4 ∷ 0 ∷ 2 ∷ 4 ∷ 42 ∷ 0 ∷ 9 ∷ 6 ∷ 2 ∷ 10 ∷ 6 ∷ 0 ∷ 11 ∷ 6 ∷ 0 ∷ []
+
+unfoldable pub fourth9 : List ℕ
+fourth9 = 4 ∷ 1 ∷ 1 ∷ 8 ∷ 6 ∷ 1 ∷ 4 ∷ 24 ∷ 2 ∷ 6 ∷ 6 ∷ 0 ∷ 7 ∷ 6 ∷ 0 ∷ []
+
+-- its log: the fresh pair, then the requests with lengths 12, 12, 15, 15
+unfoldable pub log9 : List ℕ
+log9 = 1 ∷ 100 ∷ 12 ∷ first9 ++ (12 ∷ second9 ++ (15 ∷ third9 ++ (15 ∷ fourth9)))
+
+unfoldable pub lines9 : List String
+lines9 =
+    "ok 3"
+    ∷ "ok 5"
+    ∷ "ok 8"
+    ∷ "ok 11"
+    ∷ "group l r quota"
+    ∷ "1 1 1 5"
+    ∷ "2 6 81 15"
+    ∷ "5 96 96 5"
+    ∷ "3 21 66 15"
+    ∷ "4 48 36 24"
+    ∷ "9 78 6 6"
+    ∷ "10 84 18 6"
+    ∷ "11 90 12 6"
+    ∷ "8 72 60 6"
+    ∷ "6 36 30 6"
+    ∷ "7 42 24 6"
+    ∷ []
+
+-- its final table: Figure 9(b)'s numbers, its letters a to k as 1 to 11
+unfoldable pub rows9 : List Row
+rows9 =
+    row 1 1 1 5
+    ∷ row 2 6 81 15
+    ∷ row 5 96 96 5
+    ∷ row 3 21 66 15
+    ∷ row 4 48 36 24
+    ∷ row 9 78 6 6
+    ∷ row 10 84 18 6
+    ∷ row 11 90 12 6
+    ∷ row 8 72 60 6
+    ∷ row 6 36 30 6
+    ∷ row 7 42 24 6
+    ∷ []
+
+-- the requests, with the order asked between them
+unfoldable pub calls9 : List Call
+calls9 =
+    request first9
+    ∷ request second9
+    ∷ order 1 4
+    ∷ order 5 4
+    ∷ order 3 4
+    ∷ order 4 4
+    ∷ order 4 9
+    ∷ request third9
+    ∷ request fourth9
+    ∷ order 6 8
+    ∷ []
+
+unfoldable pub replies9 : List Reply
+replies9 =
+    count 3
+    ∷ count 5
+    ∷ says first
+    ∷ says second
+    ∷ says incomparable
+    ∷ says same
+    ∷ unknown
+    ∷ count 8
+    ∷ count 11
+    ∷ says first
+    ∷ []
+
+unfoldable pub cases : List Case
+cases =
+    stored 127 (0x7f ∷ [])
+    ∷ stored 128 (0x80 ∷ 0x01 ∷ [])
+    ∷ stored 4294967295 (0xff ∷ 0xff ∷ 0xff ∷ 0xff ∷ 0x0f ∷ [])
+    ∷ made 1 1 (row 1 1 1 1)
+    ∷ grown 1 1 (request (1 ∷ 0 ∷ 1 ∷ 1 ∷ 1 ∷ 0 ∷ []) ∷ []) (count 1 ∷ []) (row 1 1 1 1 ∷ [])
+    ∷ grown 1 1 (request besideRequest ∷ []) (no 23 ∷ []) (row 1 1 1 1 ∷ [])
+    ∷ grown 1 2 (request besideRequest ∷ order 1 2 ∷ []) (count 2 ∷ says incomparable ∷ []) (row 1 1 2 1 ∷ row 2 2 1 1 ∷ [])
+    ∷ grown 1 2
+    (request uprightRequest ∷ order 1 2 ∷ order 1 1 ∷ order 3 1 ∷ order 1 3 ∷ [])
+    (count 2 ∷ says first ∷ says same ∷ unknown ∷ unknown ∷ [])
+    (row 1 1 1 1 ∷ row 2 2 2 1 ∷ [])
+    ∷ grown 1 2 (request invertedRequest ∷ order 1 2 ∷ []) (count 2 ∷ says second ∷ []) (row 1 2 2 1 ∷ row 2 1 1 1 ∷ [])
+    ∷ grown 1 1 (request (1 ∷ 0 ∷ 2 ∷ 1 ∷ 4294967295 ∷ 0 ∷ 2 ∷ 2 ∷ 0 ∷ []) ∷ []) (no 23 ∷ []) (row 1 1 1 1 ∷ [])
+    ∷ asked 7 1 1 9 (grant 7 2 2 10 20 ∷ []) (answer (ahead 10))
+    ∷ asked 7 1 1 10 (grant 7 2 2 10 20 ∷ []) (answer (onUntil 20))
+    ∷ asked 7 1 1 20 (grant 7 2 2 10 20 ∷ []) (answer (onUntil 20))
+    ∷ asked 7 1 1 21 (grant 7 2 2 10 20 ∷ []) (answer (ended 20))
+    ∷ asked 7 1 1 10 (grant 7 2 2 10 0 ∷ []) (answer onOpen)
+    ∷ asked 7 2 1 10 (grant 7 1 2 10 20 ∷ []) (answer never)
+    ∷ logged log9 lines9 rows9
+    ∷ grown 1 100 calls9 replies9 rows9
+    ∷ []

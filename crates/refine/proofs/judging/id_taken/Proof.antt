@@ -1,0 +1,15 @@
+-- `refine::judging::id_taken` meets its contract: each test is one of the definition's.
+use borrow.Author.Tests.{eq-eqb, ne-eqb, le-leb, lt-leb}
+use borrow.Author.Needs.{needs}
+use Rattle.refine.proofs.judging.id_taken.Statement.{statement}
+use Rattle.refine.proofs.judging.id_taken.Tie as tie
+
+pub id-taken-spec : {M : Type 1} → statement M
+id-taken-spec =
+    tie.close
+    (tie.spec
+    (λ c. rw (eq-eqb _ _ (c .if1 .taken)))
+    (λ c κs. search needs)
+    (λ c. rw (ne-eqb _ _ (c .before .before .if1 .left), ← (c .before .times .ensures), le-leb _ _ (c .if2 .taken)))
+    (λ c κs. search needs)
+    (λ c. rw (ne-eqb _ _ (c .before .before .before .if1 .left), ← (c .before .before .times .ensures), ← (c .times2 .ensures), lt-leb _ _ (c .before .if2 .left))))

@@ -1,0 +1,31 @@
+-- The refusals 20 to 24 as the code finds them, from the ids of the table's rows and of the entries.
+use mathlib.Core.Bool.{Bool, cond, not, _&&_, _||_}
+use mathlib.Core.List.{List}
+use Prim.Native.Nat.{ℕ, _+_, _-_}
+use lib.Dec.{eqb, leb, ltb}
+use lib.ListN.{length, getD, take}
+use Rattle.rules.specs.Answers.{Answer, answer, refused}
+use Rattle.rules.specs.Refusals.{refusalNumber}
+use Rattle.table.specs.Places.{placeOf}
+use Rattle.refine.specs.inside.Ids.{timesIn, someId}
+use Rattle.refine.specs.declared.Judged.{Judged}
+use Rattle.refine.specs.declared.Judged.the-variants as judged
+
+-- 22 for one entry's id x: it isn't the exploded id u, and it is in the table or comes twice
+abbrev pub takenIn : ℕ → (id ids : List ℕ) → ℕ → Bool
+takenIn u id ids x = not (eqb x u) && (leb 1 (timesIn x id) || leb 2 (timesIn x ids))
+
+-- `id` and `q` are the table's columns with n rows in use, `ids` are the ids of the entries, and `sum` is all their quota; the answer is
+-- the row of the exploded group u
+unfoldable pub judgedIn : (id q : List ℕ) (n u : ℕ) (ids : List ℕ) (sum : ℕ) → Answer ℕ
+judgedIn id q n u ids sum =
+    cond (eqb (placeOf id n u) n) (refused 20)
+    (cond (not (eqb (timesIn u ids) 1)) (refused 21)
+    (cond (someId (takenIn u (take n id) ids) ids) (refused 22)
+    (cond (not (eqb sum (getD q (placeOf id n u) 0))) (refused 23)
+    (cond (ltb (length id) (n + length ids - 1)) (refused 24)
+    (answer (placeOf id n u))))))
+
+abbrev pub judgedSays : Judged → Answer ℕ
+judgedSays (judged.Row own) = answer own
+judgedSays (judged.Refused why) = refused (refusalNumber why)

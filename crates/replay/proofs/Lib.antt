@@ -1,0 +1,4 @@
+pub mod Running
+pub mod Carrying
+pub mod Growing
+pub mod Room

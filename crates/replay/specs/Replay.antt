@@ -1,0 +1,73 @@
+-- What a log leads to (document 01, program `grow`): the table after it, and the text that is printed.
+use Prim.Native.Nat.{ℕ, _+_, _*_}
+use mathlib.Core.Bool.{cond}
+use mathlib.Core.List.{List, [], _++_, flatMap}
+use lib.Dec.{leb}
+use lib.ListN.{length}
+use Rattle.rules.specs.Answers.{Answer, answer, refused, then}
+use Rattle.rules.specs.Buffers.{after}
+use Rattle.table.specs.Columns.{Columns, put}
+use Rattle.fresh.specs.Fresh.{freshRows}
+use Rattle.log.specs.Log.{pairOf, Requests, requestsAt}
+use Rattle.lines.specs.Lines.{lineText, tableText}
+use Rattle.table.specs.Columns.{Table, rowsIn}
+use Rattle.replay.specs.Run.{answersTo, tableEnd}
+
+pub record Replay : Type 0 where
+  pub table : Table
+  pub text : List ℕ
+
+-- a bad or overlong length prints its `no`
+unfoldable pub endText : Answer (Unit {0}) → List ℕ
+endText (answer _) = []
+endText (refused n) = lineText (refused n)
+
+-- `ok` and the count, or `no` and the refusal, for each request; then a heading and each row
+unfoldable pub replayFrom : Table → Requests → Replay
+replayFrom t requests = record {
+  table = tableEnd t (requests .bytes);
+  text = flatMap lineText (answersTo t (requests .bytes)) ++ (endText (requests .ended) ++ tableText (rowsIn (tableEnd t (requests .bytes))));
+}
+
+-- the fresh pair, and then the requests
+unfoldable pub replayOf : Columns → List ℕ → Answer Replay
+replayOf c log =
+    then (pairOf log) λ pair.
+    then (freshRows c (pair .id) (pair .quota)) λ t.
+    answer (replayFrom (record { columns = put t c; count = length t }) (requestsAt log (pair .next)))
+
+-- what is printed: a bad fresh pair prints only its `no`
+unfoldable pub textOf : Answer Replay → List ℕ
+textOf (answer r) = r .text
+textOf (refused n) = lineText (refused n)
+
+-- the columns after it
+unfoldable pub columnsAfter : Answer Replay → Columns → Columns
+columnsAfter (answer r) c = r .table .columns
+columnsAfter (refused n) c = c
+
+abbrev pub growText : Columns → List ℕ → List ℕ
+growText c log = textOf (replayOf c log)
+
+abbrev pub growColumns : Columns → List ℕ → Columns
+growColumns c log = columnsAfter (replayOf c log) c
+
+-- the room for the text of any log of this length: so much for each byte of the log, and for the table
+abbrev pub lineRoom : ℕ
+lineRoom = 14
+
+abbrev pub tableRoom : ℕ
+tableRoom = 16384
+
+unfoldable pub growRoom : ℕ → ℕ
+growRoom bytes = lineRoom * bytes + tableRoom
+
+-- 30 where the buffer is shorter than that; then nothing is written
+unfoldable pub growAnswer : Columns → List ℕ → List ℕ → Answer ℕ
+growAnswer c log buffer = cond (leb (growRoom (length log)) (length buffer)) (answer (length (growText c log))) (refused 30)
+
+unfoldable pub growBuffer : Columns → List ℕ → List ℕ → List ℕ
+growBuffer c log buffer = cond (leb (growRoom (length log)) (length buffer)) (after buffer 0 (growText c log)) buffer
+
+unfoldable pub growTable : Columns → List ℕ → List ℕ → Columns
+growTable c log buffer = cond (leb (growRoom (length log)) (length buffer)) (growColumns c log) c

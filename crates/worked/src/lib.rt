@@ -1,2 +1,0 @@
-// The worked examples that document 01 marks P, as theorems on the definitions.
-// Definitions and proofs alone; crate cases has the test program.
