@@ -16,7 +16,7 @@ use Rattle.request.specs.Entries.{Entry, pick}
 use Rattle.request.specs.Forest.{Forest, none, tree, Direction, upright, inverted}
 use Rattle.request.specs.Numbering.{size}
 use Rattle.request.specs.Request.{Request}
-use Rattle.request.specs.Legal.{depth, Legal1, LegalTrees, Legal}
+use Rattle.request.specs.Legal.{depth, LegalNumber, LegalTrees, Legal}
 use Rattle.request.specs.Bytes.{treeCount, directionNumber, treesBytes, requestBytes}
 use Rattle.request.specs.Reading.{positiveAt, entryAt, treesBy, treeBy, notFull, treesAt, directionOf, requestOf}
 use Rattle.request.proofs.Numbering.{size-length}
@@ -36,13 +36,13 @@ drawn bytes at value rest h e =
     (rw (← whole, l) at a, rw (← whole, l) at b)
 
 -- the same of a number that may not be 0
-positive : (bytes : List ℕ) (at value : ℕ) (rest : List ℕ) → Legal1 value → drop at bytes ≡ bytesOf value ++ rest
+positive : (bytes : List ℕ) (at value : ℕ) (rest : List ℕ) → LegalNumber value → drop at bytes ≡ bytesOf value ++ rest
     → (positiveAt bytes at ≡ found value (at + length (bytesOf value))) × (drop (at + length (bytesOf value)) bytes ≡ rest)
 unfolding positiveAt
 positive bytes at value rest h e = let d = drawn bytes at value rest (h .1) e in (rw (d .0, ne-eqb value 0 (λ z. omega (arith, h .0))), d .1)
 
 -- an entry's bytes at a position
-entry-back : (bytes : List ℕ) (at : ℕ) (e : Entry) (k : ℕ) (rest : List ℕ) → Legal1 (e .id) → Legal1 (e .quota) → k ≤ greatest
+entry-back : (bytes : List ℕ) (at : ℕ) (e : Entry) (k : ℕ) (rest : List ℕ) → LegalNumber (e .id) → LegalNumber (e .quota) → k ≤ greatest
     → drop at bytes ≡ bytesOf (e .id) ++ (bytesOf (e .quota) ++ (bytesOf k ++ rest))
     → (next : ℕ) × (entryAt bytes at ≡ answer (record { id = e .id; quota = e .quota; children = k; next = next })) × (drop next bytes ≡ rest)
 unfolding entryAt

@@ -13,16 +13,16 @@ depth none = 0
 depth (tree w c r) = pick (leb (depth r) (depth c)) (suc (depth c)) (depth r)
 
 -- a number from 1 to the greatest; every id and quota is one
-abbrev pub Legal1 : ℕ → Type 0
-Legal1 n = (1 ≤ n) × (n ≤ greatest)
+abbrev pub LegalNumber : ℕ → Type 0
+LegalNumber n = (1 ≤ n) × (n ≤ greatest)
 
 abbrev pub LegalTrees : Forest → Type 0
 LegalTrees none = Unit {0}
-LegalTrees (tree e c r) = Legal1 (e .id) × Legal1 (e .quota) × LegalTrees c × LegalTrees r
+LegalTrees (tree e c r) = LegalNumber (e .id) × LegalNumber (e .quota) × LegalTrees c × LegalTrees r
 
 -- a request has 1 to 256 entries; the greatest depth is 16
 pub record Legal (q : Request) : Type 0 where
-  pub exploded : Legal1 (q .exploded)
+  pub exploded : LegalNumber (q .exploded)
   pub trees : LegalTrees (q .trees)
   pub entries-some : 1 ≤ length (entries q)
   pub entries-most : length (entries q) ≤ mostEntries

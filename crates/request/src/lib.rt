@@ -5,20 +5,6 @@ mod reading;
 pub use reading::read_request;
 use rules::Refusal;
 
-// An entry as it is read.
-enum EntryDrawn {
-    // Id, quota, number of children, and the position after them.
-    Entry(u32, u32, u32, usize),
-    Refused(Refusal),
-}
-
-// Where a walk over child counts came to.
-enum Walk {
-    // The next position, the next entry, and the subtrees' quota.
-    End(usize, usize, u64),
-    Refused(Refusal),
-}
-
 // A request as it is read; its entries stand in the work columns.
 pub enum RequestRead {
     // Exploded id, whether the direction is upright, number of entries, and all their quota.

@@ -7,14 +7,26 @@ ghost use Rattle.request.specs.Reading.{positiveAt, entryAt, treesAt, re
 ghost use Rattle.request.specs.inside.Says.{entrySays, walkSays, requestSays};
 ghost use Rattle.request.specs.inside.Work.{oldWork, newWork, Walked, walkEnd, RequestIn, summary};
 ghost use Rattle.rules.specs.Lent.{old};
-use crate::EntryDrawn;
 use crate::RequestRead;
-use crate::Walk;
 use number::Drawn;
 use rules::ENTRY_CAPACITY;
 use rules::GREATEST_DEPTH;
 use rules::MOST_ENTRIES;
 use rules::Refusal;
+
+// An entry as it is read.
+enum EntryDrawn {
+    // Id, quota, number of children, and the position after them.
+    Entry(u32, u32, u32, usize),
+    Refused(Refusal),
+}
+
+// Where a walk over child counts came to.
+enum Walk {
+    // The next position, the next entry, and the subtrees' quota.
+    End(usize, usize, u64),
+    Refused(Refusal),
+}
 
 // A number that may not be 0.
 fn positive_at(bytes: &[u8], at: usize) -> Drawn
