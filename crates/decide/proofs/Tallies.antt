@@ -5,7 +5,7 @@ use mathlib.Core.List.{List, [], _∷_}
 use Prim.Native.Nat.{ℕ, min, max, _<_, _≤_}
 use native.Mathlib.Omega.{arith}
 use lib.Dec.{eqb}
-use borrow.Author.Tests.{eq-eqb, ne-eqb, lt-ltb, le-ltb, le-leb, lt-leb, eqb-false, ltb-true, ltb-false, not-true}
+use borrow.Author.Tests.{eq-eqb, ne-eqb, lt-ltb, le-ltb, le-leb, lt-leb, eqb-false, ltb-true, not-true}
 use Rattle.rules.proofs.Cases.{by-lt, by-eq}
 use Rattle.rules.proofs.Bools.{or-none, and-both}
 use Rattle.matching.specs.Matching.{Window}

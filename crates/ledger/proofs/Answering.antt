@@ -19,7 +19,6 @@ use Rattle.order.specs.Order.{rowOf, orderIn}
 use Rattle.refine.specs.Refine.{groupsOf}
 use Rattle.refine.proofs.Lookup.{id-row}
 use Rattle.refine.specs.Refine.{rowIn}
-use Rattle.promises.proofs.Refinement.{by-rows}
 use Rattle.ledger.specs.Ledger.{Ledger, acceptedBy, ledgerOrder}
 use Rattle.ledger.proofs.Agree.{Agree}
 
@@ -69,8 +68,6 @@ module _ (t : List Row) (g : Ledger) (h : Agree t g) (a b : ℕ) where
         le-leb 1 (times b (g .groups)) l,
         id-row a t y,
         id-row b t z,
-        ← by-rows t a b,
-        ← by-rows t b a,
         h .ordered a b k l,
         h .ordered b a l k,
       )

@@ -15,9 +15,9 @@ use Rattle.promises.specs.Theorems.{IsEntry, OtherIn, subgroupIn}
 use Rattle.promises.proofs.Without.{but, sum-without, count-without}
 use Rattle.promises.proofs.After.{entry-or-other}
 use Rattle.promises.proofs.Cutting.{Refining, refines}
-use Rattle.promises.proofs.Refinement.{promised}
+use Rattle.promises.proofs.Refinement.{promised, by-rows}
 use Rattle.ledger.specs.Ledger.{Ledger, replace, orderAfter, explodedLedger}
-use Rattle.ledger.proofs.Agree.{Agree}
+use Rattle.ledger.proofs.Agree.{Agree, by-numbers}
 use Rattle.ledger.proofs.Orders.{Asked, Other, entries-after, entry-other, other-entry, others-after, left-unknown, right-unknown}
 use Rattle.ledger.proofs.Replaced.{sum-replace, before-other, before-new}
 
@@ -111,11 +111,11 @@ module _ {room : ℕ} {q : Request} {t : List Row} (g : Ledger) (a : Agree t g) 
       go : IsEntry q x ⊎ OtherIn q t x → IsEntry q y ⊎ OtherIn q t y → orderAfter q g x y ≡ subgroupIn (refineRows q t) x y
       go (inl e) (inl f) = entries-after asked x y e f ∙ sym (promised h .entries-order x y e f)
       go (inl e) (inr o) =
-          entry-other asked x y e (other y o) ∙ a .ordered u y (omega (arith, known)) (was y o) ∙ sym (promised h .entry-below y x o e)
+          entry-other asked x y e (other y o) ∙ by-numbers a u y (omega (arith, known)) (was y o) ∙ sym (promised h .entry-below y x o e)
       go (inr o) (inl e) =
-          other-entry asked x y (other x o) e ∙ a .ordered x u (was x o) (omega (arith, known)) ∙ sym (promised h .entry-above x y o e)
+          other-entry asked x y (other x o) e ∙ by-numbers a x u (was x o) (omega (arith, known)) ∙ sym (promised h .entry-above x y o e)
       go (inr o) (inr p) =
-          others-after asked x y (other x o) (other y p) ∙ a .ordered x y (was x o) (was y p) ∙ sym (promised h .others-order x y o p)
+          others-after asked x y (other x o) (other y p) ∙ by-numbers a x y (was x o) (was y p) ∙ sym (promised h .others-order x y o p)
 
   -- an id that is no group after the request was none before it, and is no entry
   neither : (x : ℕ) → times x after ≡ 0 → (times x (g .groups) ≡ 0) × (times x (entries q) ≡ 0)
@@ -132,7 +132,7 @@ module _ {room : ℕ} {q : Request} {t : List Row} (g : Ledger) (a : Agree t g) 
     lefts = left .holds;
     rights = right .holds;
     numbers = numbers-after;
-    ordered = ordered-after;
+    ordered = λ x y j k. ordered-after x y j k ∙ by-rows (refineRows q t) x y;
     below-known = λ x y k. let n = neither x k in left-unknown asked x y (n .0) (n .1);
     above-known = λ x y k. let n = neither y k in right-unknown asked x y (n .0) (n .1);
   }

@@ -23,7 +23,7 @@ use Rattle.ledger.specs.Calls.{Call, ledgerAfter, ledgerReplies, ledgerE
 use Rattle.table.specs.Columns.{Table, rowsIn}
 use Rattle.ledger.specs.Decisions.{GroupGrant}
 use Rattle.ledger.specs.Demand.{FreshAccepted, ledgerStart, ledger, engine, tableRows, Noted, StoredAs, Demand}
-use Rattle.ledger.proofs.Agree.{Meets}
+use Rattle.ledger.proofs.Agree.{by-numbers, Meets}
 use Rattle.ledger.proofs.OneCall.{orders-alike, says-alike, meets-after, Unmoved, stays}
 use Rattle.ledger.proofs.Starting.{meets-fresh}
 use Rattle.ledger.proofs.Deciding.{each-to, Alike, decided-alike}
@@ -83,7 +83,7 @@ module _ (c : Columns) (id quota : ℕ) (f : FreshAccepted c id quota) where
   noted-order {ks} {x} {l} {r} {y} {l′} {r′} n n′ =
       let m = last n in
       let m′ = last n′ in
-      rw (← (m .l-last), ← (m .r-last), ← (m′ .l-last), ← (m′ .r-last)) (sym (meets ks .agree .ordered x y (m .there) (m′ .there)))
+      rw (← (m .l-last), ← (m .r-last), ← (m′ .l-last), ← (m′ .r-last)) (sym (by-numbers (meets ks .agree) x y (m .there) (m′ .there)))
 
   -- noted numbers are numbers of a sound table
   noted-some : {ks : List Call} {x l r : ℕ} → Noted c id quota ks x l r → (1 ≤ l) × (1 ≤ r) × (l ≤ greatest) × (r ≤ greatest)

@@ -3,7 +3,7 @@ use mathlib.Core.Path.{_≡_, refl, ap, ap₂, sym, _∙_}
 use mathlib.Core.List.{List, [], _∷_, _++_, append-nil}
 use Prim.Native.Nat.{ℕ, zero, suc, _+_, _-_, _<_, _≤_}
 use native.Mathlib.Omega.{arith}
-use lib.ListN.{getD, set, length-set}
+use lib.ListN.{set, length-set}
 use lib.Seq.{getD-set-same, getD-set-other, append-snoc}
 use Rattle.rules.specs.Answers.{Answer, answer, refused, then}
 use Rattle.table.specs.Columns.{Row, Columns, columns, rowAt, rowsFrom, rows}

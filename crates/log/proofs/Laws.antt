@@ -1,16 +1,16 @@
 -- Where a log's parts stand, and its requests one after another.
-use mathlib.Core.Path.{_≡_, refl, ap, sym, _∙_}
-use mathlib.Core.List.{List, [], _∷_, _++_, append-assoc, append-nil}
+use mathlib.Core.Path.{_≡_, refl, ap}
+use mathlib.Core.List.{List}
 use Prim.Native.Nat.{ℕ, zero, suc, _+_, _-_, _<_, _≤_}
 use native.Mathlib.Omega.{arith}
 use lib.Dec.{ltb}
 use lib.ListN.{length}
 use borrow.Author.Tests.{ltb-false, lt-ltb, le-ltb, le-leb, lt-leb}
-use Rattle.rules.specs.Answers.{Answer, answer, refused}
+use Rattle.rules.specs.Answers.{answer, refused}
 use Rattle.rules.proofs.Answers.{same-answer, peel, then-answer}
 use Rattle.number.specs.Number.{found, numberAt}
 use Rattle.number.proofs.Laws.{number-ends}
-use Rattle.log.specs.Log.{Pair, pairOf, Part, partAt, bytesIn, Requests, noMore, oneMore, partThen, requestsFrom, requestsAt}
+use Rattle.log.specs.Log.{Pair, pairOf, Part, partAt, bytesIn, noMore, oneMore, partThen, requestsFrom}
 
 -- ## The pair
 

@@ -1,15 +1,15 @@
 -- Requests written after their lengths read back as they are.
 use mathlib.Core.Path.{_≡_, refl, ap, sym, _∙_}
-use mathlib.Core.List.{List, [], _∷_, _++_, flatMap, append-assoc, append-nil}
+use mathlib.Core.List.{List, [], _∷_, _++_, flatMap, append-assoc}
 use Prim.Native.Nat.{ℕ, _+_, _-_, _≤_}
 use native.Mathlib.Omega.{arith}
-use lib.ListN.{length, take, drop, length-append}
+use lib.ListN.{length, length-append}
 use lib.Seq.{take-append-seam, drop-append-seam}
 use Rattle.rules.specs.Answers.{answer}
 use Rattle.rules.specs.Limits.{greatest}
-use Rattle.number.specs.Number.{found, numberAt, bytesOf}
+use Rattle.number.specs.Number.{bytesOf}
 use Rattle.number.proofs.Laws.{number-back, number-count}
-use Rattle.log.specs.Log.{Part, partAt, bytesIn, Requests, oneMore, requestsFrom, requestsAt, requestsBytes}
+use Rattle.log.specs.Log.{partAt, bytesIn, oneMore, requestsFrom, requestsAt, requestsBytes}
 use Rattle.log.proofs.Laws.{length-good, stop, goes-on}
 
 -- requests whose lengths are numbers

@@ -1,19 +1,18 @@
 -- A forest's numbers do not hang on its ids: the trees that a reading leaves in the work columns, without them.
-use mathlib.Core.Path.{_≡_, refl, ap, ap₂, sym, subst, _∙_}
-use mathlib.Core.Bool.{Bool, true, false, cond}
+use mathlib.Core.Path.{_≡_, refl, ap, sym, _∙_}
+use mathlib.Core.Bool.{Bool}
 use mathlib.Core.List.{List, [], map}
 use Prim.Native.Nat.{ℕ, _+_, _-_}
 use native.Mathlib.Omega.{arith}
-use lib.Dec.{leb}
 use lib.ListN.{length}
 use lib.Seq.{length-sets}
 use Rattle.rules.specs.Buffers.{Bytes}
-use Rattle.rules.specs.Limits.{greatest, mostEntries}
+use Rattle.rules.specs.Limits.{mostEntries}
 use Rattle.request.specs.Entries.{Entry, entry, quota}
 use Rattle.request.specs.Forest.{Forest, none, tree, Direction, upright, inverted, preL}
 use Rattle.request.specs.Numbering.{whole, size, upL, upR, downL, downR, lefts, rights}
 use Rattle.request.specs.Reading.{requestOf}
-use Rattle.request.specs.inside.Work.{Work, work, TreesIn, enter, filled, directionBy}
+use Rattle.request.specs.inside.Work.{Work, work, TreesIn, filled}
 use Rattle.request.proofs.ReadLaws.{request-legal}
 use Rattle.request.proofs.Work.{Places, filled-back, filled-in, Received}
 use Rattle.numbering.specs.Numbered.{leftNumbers, rightNumbers}

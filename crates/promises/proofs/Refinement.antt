@@ -10,7 +10,7 @@ use borrow.Author.Tests.{le-leb}
 use Rattle.rules.specs.Answers.{answer}
 use Rattle.rules.proofs.Answers.{same-answer, then-answer}
 use Rattle.boxes.specs.Boxes.{boxOf, within, contains, disjoint}
-use Rattle.request.specs.Entries.{times, quotaOf, before, Distinct, Positive}
+use Rattle.request.specs.Entries.{times, quotaOf, before, Positive}
 use Rattle.request.specs.Forest.{Forest, Direction, preL, left, right, treeOrder}
 use Rattle.request.specs.Request.{Request, entries, leftOf, rightOf}
 use Rattle.request.specs.Reading.{requestOf}
@@ -25,7 +25,7 @@ use Rattle.table.specs.Check.{soundRows, checked}
 use Rattle.table.proofs.Passing.{rows-good, check-passed}
 use Rattle.order.specs.Order.{subgroup}
 use Rattle.refine.specs.Refine.{groupsOf, rowIn, refineRows, explodedRows, refined}
-use Rattle.promises.specs.Theorems.{IsEntry, OtherIn, qOf, boxIn, subgroupIn, Divided, Promises}
+use Rattle.promises.specs.Theorems.{IsEntry, OtherIn, qOf, subgroupIn, Divided, Promises}
 use Rattle.refine.proofs.Lookup.{l-row, r-row, quota-row, groups-length}
 use Rattle.promises.proofs.Soundness.{Parted, sound-ids, ids-sound}
 use Rattle.promises.proofs.After.{entry-row, distinct-after, groups-after, length-after, entry-after}

@@ -8,8 +8,8 @@ use native.Mathlib.Omega.{arith}
 use lib.Dec.{eqb}
 use borrow.Author.Tests.{eqb-true, ne-eqb}
 use Rattle.rules.proofs.Bools.{or-none}
-use Rattle.request.specs.Entries.{pick, times, quotaOf, Distinct}
-use Rattle.request.proofs.Sums.{eqb-same, count-head, quota-none}
+use Rattle.request.specs.Entries.{pick, times, Distinct}
+use Rattle.request.proofs.Sums.{eqb-same, count-head}
 use Rattle.table.specs.Columns.{Row}
 use Rattle.table.specs.Check.{someRow, somePair, sameId}
 use Rattle.refine.specs.Refine.{groupsOf, rowIn}

@@ -1,14 +1,11 @@
 -- Sound rows, as they are found by their ids.
 use mathlib.Core.Path.{_≡_}
-use mathlib.Core.Bool.{Bool, true, false, not, cond}
+use mathlib.Core.Bool.{false, not}
 use mathlib.Core.List.{List}
 use mathlib.Core.Logic.{_≢_, _⊎_, inl, inr}
-use Prim.Native.Nat.{ℕ, _+_, _-_, _≤_, _<_}
-use native.Mathlib.Omega.{arith}
-use lib.Dec.{eqb, leb, ltb}
-use borrow.Author.Tests.{eqb-false, ne-eqb, ltb-false, le-ltb, leb-true, le-leb, lt-leb, not-false}
+use Prim.Native.Nat.{ℕ, _-_, _≤_}
+use borrow.Author.Tests.{not-false}
 use Rattle.rules.specs.Answers.{answer}
-use Rattle.rules.specs.Limits.{greatest}
 use Rattle.rules.proofs.Bools.{or-none}
 use Rattle.boxes.specs.Boxes.{apart}
 use Rattle.boxes.proofs.Ranges.{Clear, apart-clear, clear-apart}

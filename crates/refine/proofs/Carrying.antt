@@ -1,5 +1,5 @@
 -- A request that was read and judged: what the code asks and leaves, from what its calls say.
-use mathlib.Core.Path.{_≡_, refl, ap, sym, _∙_}
+use mathlib.Core.Path.{_≡_, ap, sym, _∙_}
 use mathlib.Core.Bool.{Bool}
 use mathlib.Core.List.{List, map}
 use Prim.Native.Nat.{ℕ, _+_, _-_, _≤_, _<_}
@@ -12,7 +12,7 @@ use Rattle.rules.specs.Capacities.{entryCapacity}
 use Rattle.rules.specs.Limits.{mostEntries}
 use Rattle.rules.proofs.Answers.{same-answer, never-refused, by-answer, then-answer, then-refused}
 use Rattle.request.specs.Entries.{Entry, quota, before}
-use Rattle.request.specs.Numbering.{whole, size}
+use Rattle.request.specs.Numbering.{whole}
 use Rattle.request.specs.Request.{Request, entries, leftOf, rightOf}
 use Rattle.request.specs.Reading.{requestOf}
 use Rattle.request.specs.Acceptance.{accepted}
@@ -20,11 +20,11 @@ use Rattle.request.specs.inside.Work.{Summary, summary}
 use Rattle.request.proofs.Accepting.{request-accepted}
 use Rattle.request.proofs.Numbering.{size-length}
 use Rattle.request.proofs.ReadLaws.{request-read}
-use Rattle.table.specs.Columns.{Row, Columns, rows, put, counted, afterwards}
+use Rattle.table.specs.Columns.{Row, Columns, rows, counted, afterwards}
 use Rattle.table.specs.Check.{checked}
 use Rattle.table.specs.Places.{placeOf}
 use Rattle.numbering.specs.Numbered.{EntriesIn, leftNumbers, rightNumbers}
-use Rattle.refine.specs.Refine.{groupsOf, refineRows, explodedRows, refined}
+use Rattle.refine.specs.Refine.{groupsOf, explodedRows, refined}
 use Rattle.refine.specs.inside.Ids.{timesIn}
 use Rattle.refine.specs.inside.Judging.{judgedIn}
 use Rattle.refine.specs.inside.Placing.{placedAll, HasRows, Bounded}

@@ -1,16 +1,15 @@
 -- The row of a group, and how often an id comes.
-use mathlib.Core.Path.{_≡_, refl, ap, ap₂, sym, _∙_}
-use mathlib.Core.Bool.{Bool, true, false, cond}
-use mathlib.Core.List.{List, [], _∷_, _++_}
-use mathlib.Core.Logic.{_≢_, _⊎_, inl, inr}
+use mathlib.Core.Path.{_≡_, refl, ap, sym}
+use mathlib.Core.Bool.{true, false, cond}
+use mathlib.Core.List.{List, [], _∷_}
 use Prim.Native.Nat.{ℕ, _+_, _≤_}
 use native.Mathlib.Omega.{arith}
 use lib.Dec.{eqb}
 use lib.ListN.{length, length-map}
-use borrow.Author.Tests.{eqb-true, ne-eqb}
+use borrow.Author.Tests.{eqb-true}
 use Rattle.rules.proofs.Bools.{or-none}
 use Rattle.request.specs.Entries.{pick, times, quotaOf, Distinct}
-use Rattle.request.proofs.Sums.{eqb-same, count-head, quota-none}
+use Rattle.request.proofs.Sums.{quota-none}
 use Rattle.table.specs.Columns.{Row, lOf, rOf}
 use Rattle.table.specs.Check.{someRow, somePair, sameId}
 use Rattle.refine.specs.Refine.{groupsOf, rowIn}

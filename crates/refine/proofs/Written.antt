@@ -1,26 +1,24 @@
 -- The four columns after an accepted request.
-use mathlib.Core.Path.{_≡_, refl, ap, ap₂, sym, _∙_}
-use mathlib.Core.Bool.{true}
+use mathlib.Core.Path.{_≡_, refl, ap, sym, _∙_}
 use mathlib.Core.List.{List, [], _∷_, _++_, map}
 use Prim.Native.Nat.{ℕ, zero, suc, _+_, _-_, _≤_, _<_}
 use native.Mathlib.Omega.{arith}
-use lib.Dec.{leb}
 use lib.ListN.{length, getD, take, drop, length-append, length-map}
 use lib.Seq.{sets, sets-eq, take-append-seam}
 use borrow.Author.Tests.{le-leb}
 use Rattle.rules.specs.Answers.{answer}
 use Rattle.rules.specs.Limits.{greatest}
 use Rattle.request.specs.Entries.{Entry, quota, quotaAt, oneAt, sum, times, total, entryOf, before, without}
-use Rattle.request.specs.Numbering.{whole, size, lefts, rights}
+use Rattle.request.specs.Numbering.{whole}
 use Rattle.request.specs.Request.{Request, entries, leftOf, rightOf}
 use Rattle.request.specs.Reading.{requestOf}
 use Rattle.request.specs.Acceptance.{accepted}
 use Rattle.request.proofs.Accepting.{Accepted, request-accepted}
-use Rattle.request.proofs.Numbering.{size-length, whole-total, lefts-are, rights-are}
+use Rattle.request.proofs.Numbering.{whole-total, lefts-are, rights-are}
 use Rattle.request.proofs.ReadLaws.{ReadRequest, request-read}
 use Rattle.request.proofs.Sums.{before-within, positive-quota}
 use Rattle.request.proofs.Trees.{same-left, same-right}
-use Rattle.table.specs.Columns.{Row, Columns, columns, rowAt, rows, put, overlay}
+use Rattle.table.specs.Columns.{Row, Columns, rowAt, rows, put, overlay}
 use Rattle.table.specs.Check.{checked}
 use Rattle.table.specs.Sound.{SoundRow}
 use Rattle.table.proofs.Rows.{rows-length}
@@ -29,11 +27,10 @@ use Rattle.table.proofs.Places.{place-in}
 use Rattle.table.proofs.Soundness.{check-sound}
 use Rattle.numbering.specs.Numbered.{leftNumbers, rightNumbers}
 use Rattle.refine.specs.Refine.{groupsOf, rowIn, rowFor, keptRow, keptRows, newRows, refineRows}
-use Rattle.refine.specs.inside.Ids.{timesIn}
 use Rattle.refine.specs.inside.Placing.{placed, placedAll, HasRows, Bounded}
 use Rattle.refine.proofs.Lookup.{groups-length}
 use Rattle.refine.proofs.Placement.{valueAt, value-by-id, without-length, column-after}
-use Rattle.refine.proofs.Accepting.{passed, times-ids, times-rows, place-row, quota-place}
+use Rattle.refine.proofs.Accepting.{passed, times-ids, place-row, quota-place}
 
 -- what was written to the front of a column
 pub front-sets : (s vs : List ℕ) (n : ℕ) → length vs ≡ n → n ≤ length s → take n (sets s 0 vs) ≡ vs

@@ -5,7 +5,7 @@ use Prim.Native.Nat.{ℕ, _+_, _*_, _-_, _<_, _≤_}
 use native.Mathlib.Omega.{arith}
 use lib.ListN.{length, length-append}
 use Rattle.rules.specs.Answers.{Answer, answer, refused, orElse}
-use Rattle.rules.specs.Buffers.{written, after}
+use Rattle.rules.specs.Buffers.{after}
 use Rattle.rules.proofs.Buffers.{written-all, after-none, after-same, after-then}
 use Rattle.table.specs.Columns.{Columns}
 use Rattle.table.proofs.Rows.{rows-length}

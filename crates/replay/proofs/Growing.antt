@@ -1,8 +1,8 @@
 -- The whole of a log: the room, the fresh pair, and then the requests.
-use mathlib.Core.Path.{_≡_, refl, ap, sym, subst, _∙_}
+use mathlib.Core.Path.{_≡_, ap, sym, subst, _∙_}
 use mathlib.Core.Bool.{_||_}
 use mathlib.Core.List.{List}
-use Prim.Native.Nat.{ℕ, _+_, _*_, _<_, _≤_}
+use Prim.Native.Nat.{ℕ, _<_, _≤_}
 use native.Mathlib.Omega.{arith}
 use lib.Dec.{eqb}
 use lib.ListN.{length}
@@ -15,10 +15,10 @@ use Rattle.table.specs.Columns.{Row, Columns, put, counted, afterwards}
 use Rattle.table.specs.Check.{lengthsBad}
 use Rattle.fresh.specs.Fresh.{freshRows}
 use Rattle.table.proofs.Lengths.{lengths-good, good-count, put-length, put-lengths}
-use Rattle.log.specs.Log.{Pair, pairOf, requestsAt}
+use Rattle.log.specs.Log.{Pair, pairOf}
 use Rattle.lines.specs.Lines.{lineText}
 use Rattle.lines.proofs.Laws.{line-most}
-use Rattle.replay.specs.Replay.{Replay, replayFrom, replayOf, textOf, columnsAfter, growText, growColumns, growRoom, growAnswer, growBuffer, growTable}
+use Rattle.replay.specs.Replay.{Replay, replayOf, textOf, columnsAfter, growText, growColumns, growRoom, growAnswer, growBuffer, growTable}
 use Rattle.replay.specs.inside.Carrying.{carried}
 use Rattle.replay.proofs.Running.{Held, make-held}
 

@@ -7,21 +7,21 @@ use native.Mathlib.Omega.{arith}
 use lib.Dec.{leb}
 use lib.ListN.{length, length-append}
 use borrow.Author.Tests.{leb-true}
-use Rattle.rules.specs.Answers.{Answer, answer, refused}
+use Rattle.rules.specs.Answers.{answer, refused}
 use Rattle.rules.proofs.Answers.{same-answer, by-answer, wanted}
 use Rattle.rules.proofs.Cases.{by-lt}
 use Rattle.table.specs.Columns.{Columns, counted, afterwards}
 use Rattle.fresh.specs.Fresh.{freshRows}
 use Rattle.table.proofs.Rows.{rows-length}
-use Rattle.log.specs.Log.{Requests, pairOf, partAt, bytesIn, noMore, requestsFrom, requestsAt}
-use Rattle.log.proofs.Laws.{pair-in, part-in, stop, no-more, one-more}
+use Rattle.log.specs.Log.{pairOf, partAt, bytesIn, noMore, requestsFrom, requestsAt}
+use Rattle.log.proofs.Laws.{part-in, stop, no-more, one-more}
 use Rattle.lines.specs.Lines.{lineText, columnsBad}
 use Rattle.lines.proofs.Laws.{line-most, table-most}
 use Rattle.table.specs.Columns.{Table, rowsIn}
 use Rattle.refine.specs.Refine.{answerTo, tableAfter}
-use Rattle.replay.specs.Replay.{Replay, replayFrom, replayOf, textOf, growText, growRoom, growAnswer, lineRoom, tableRoom}
+use Rattle.replay.specs.Replay.{Replay, replayFrom, textOf, growText, growRoom, growAnswer, lineRoom, tableRoom}
 use Rattle.replay.specs.inside.Carrying.{carried}
-use Rattle.replay.proofs.Running.{Held, held-within, held-after, before, replay-none, replay-bad, replay-more}
+use Rattle.replay.proofs.Running.{Held, held-within, held-after, replay-none, replay-bad, replay-more}
 use Rattle.replay.proofs.Growing.{pair-bad, fresh-bad, fresh-good}
 
 -- few bytes of text for so many bytes of the log

@@ -1,7 +1,7 @@
 -- The table after a request, and the text of requests one after another.
 use mathlib.Core.Path.{_≡_, refl, ap, sym, _∙_}
 use mathlib.Core.Bool.{false}
-use mathlib.Core.List.{List, [], _++_, flatMap, append-assoc, append-nil}
+use mathlib.Core.List.{List, _++_, flatMap, append-assoc}
 use Prim.Native.Nat.{ℕ, _+_, _*_, _-_, _/_, _≤_}
 use native.Mathlib.Omega.{arith}
 use lib.Dec.{ltb}
@@ -15,7 +15,7 @@ use Rattle.rules.proofs.Buffers.{written-all}
 use Rattle.rules.proofs.Cases.{by-lt}
 use Rattle.rules.proofs.Bools.{or-none}
 use Rattle.request.proofs.ReadLaws.{request-read}
-use Rattle.table.specs.Columns.{Row, Columns, rows, put, counted, afterwards}
+use Rattle.table.specs.Columns.{Row, Columns, put, counted, afterwards}
 use Rattle.table.specs.Check.{lengthsBad, countBad}
 use Rattle.table.proofs.Lengths.{count-good, good-count, put-length, put-lengths}
 use Rattle.table.proofs.Rows.{rows-length}

@@ -1,14 +1,13 @@
 -- The laws of the stored table: a table that is stored reads back as that table, and bytes that read in as a table are that table's bytes.
-use mathlib.Core.Path.{_≡_, refl, ap, ap₂, sym, _∙_}
+use mathlib.Core.Path.{_≡_, refl, ap, sym, _∙_}
 use mathlib.Core.Bool.{false}
 use mathlib.Core.List.{List, [], _∷_, _++_, flatMap, append-assoc, append-nil}
 use Prim.Native.Nat.{ℕ, zero, suc, _+_, _-_, _≤_}
 use native.Mathlib.Omega.{arith}
 use lib.Dec.{eqb, ltb}
-use lib.ListN.{length, getD, take, drop, length-append, drop-of-length-le}
-use lib.Seq.{length-take-le, drop-at}
+use lib.ListN.{length, getD, length-append, drop-of-length-le}
 use borrow.Author.Tests.{eqb-false, ltb-false, le-ltb}
-use Rattle.rules.specs.Answers.{Answer, answer, refused, then}
+use Rattle.rules.specs.Answers.{Answer, answer, then}
 use Rattle.rules.specs.Limits.{greatest}
 use Rattle.rules.specs.Buffers.{Bytes}
 use Rattle.rules.proofs.Answers.{same-answer, peel, then-answer}

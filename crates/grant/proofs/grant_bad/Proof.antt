@@ -3,7 +3,6 @@ use mathlib.Core.Path.{_≡_, refl}
 use mathlib.Core.Bool.{Bool, true, false, _||_}
 use borrow.Author.Tests.{eq-eqb, ne-eqb}
 use Rattle.grant.specs.Grant.{grantBad}
-use borrow.Author.Needs.{needs}
 use Rattle.grant.proofs.grant_bad.Statement.{statement}
 use Rattle.grant.proofs.grant_bad.Tie as tie
 

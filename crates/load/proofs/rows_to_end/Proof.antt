@@ -1,5 +1,4 @@
 -- `load::rows_to_end` meets its contract: the rows, then 6, then the check of the rows.
-use native.Mathlib.Omega.{arith}
 use borrow.Author.Needs.{needs}
 use borrow.Author.Tests.{lt-ltb, le-ltb}
 use Rattle.stored.specs.Stored.{rowsToEnd}

@@ -1,6 +1,5 @@
 -- `replay::too_short` meets its contract.
 use mathlib.Core.Path.{sym}
-use Prim.Native.Nat.{_+_, _*_}
 use native.Mathlib.Omega.{arith}
 use borrow.Author.Tests.{lt-ltb}
 use Rattle.replay.specs.Replay.{growRoom}

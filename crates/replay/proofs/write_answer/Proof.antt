@@ -1,6 +1,5 @@
 -- `replay::write_answer` meets its contract: a line for each case.
 use mathlib.Core.Path.{_≡_, ap, sym}
-use Prim.Native.Nat.{_≤_}
 use native.Mathlib.Omega.{arith}
 use lib.ListN.{length}
 use denote.Ref.{now}

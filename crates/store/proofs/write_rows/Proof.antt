@@ -1,10 +1,9 @@
 -- `store::write_rows` meets its contract. The loop's invariant: the bytes of the rows up to row i stand in the buffer.
 use Prim.Native.Nat.{_-_}
 use native.Mathlib.Omega.{arith}
-use denote.Ref.{now}
 use Rattle.rules.proofs.Pieces.{Wrote, wrote-none, piece-room, wrote-more, wrote-all}
 use Rattle.table.specs.Columns.{columns}
-use Rattle.store.proofs.Writing.{upTo, row, none, more}
+use Rattle.store.proofs.Writing.{upTo, none, more}
 use Rattle.store.proofs.write_rows.Statement.{statement}
 use Rattle.store.proofs.write_rows.Tie as tie
 

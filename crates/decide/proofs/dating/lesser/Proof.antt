@@ -1,6 +1,5 @@
 -- `decide::dating::lesser` meets its contract.
 use native.Mathlib.Omega.{arith}
-use borrow.Author.Needs.{needs}
 use borrow.Author.Tests.{eq-eqb, ne-eqb}
 use Rattle.decide.specs.inside.Tally.{earlier}
 use Rattle.decide.proofs.dating.lesser.Statement.{statement}

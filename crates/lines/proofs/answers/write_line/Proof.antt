@@ -1,5 +1,5 @@
 -- `lines::answers::write_line` meets its contract: a line for each case.
-use mathlib.Core.Path.{_≡_, ap, sym, _∙_}
+use mathlib.Core.Path.{ap, sym, _∙_}
 use mathlib.Core.List.{[], _∷_, _++_}
 use denote.Ref.{now}
 use Rattle.rules.specs.Buffers.{written, after}

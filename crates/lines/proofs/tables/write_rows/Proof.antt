@@ -1,12 +1,10 @@
 -- `lines::tables::write_rows` meets its contract. The loop's invariant: the rows above row i stand in the buffer.
-use mathlib.Core.Path.{_≡_}
 use denote.Ref.{now}
 use Prim.Native.Nat.{_-_}
 use native.Mathlib.Omega.{arith}
 use Rattle.rules.proofs.Pieces.{Wrote, wrote-none, piece-room, wrote-more, wrote-all}
 use Rattle.table.specs.Columns.{Columns, columns}
 use Rattle.lines.proofs.Laws.{whole, piece, more, none}
-use borrow.Author.Needs.{needs}
 use Rattle.lines.proofs.tables.write_rows.Statement.{statement}
 use Rattle.lines.proofs.tables.write_rows.Tie as tie
 

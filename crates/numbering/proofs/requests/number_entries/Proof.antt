@@ -1,5 +1,5 @@
 -- `numbering::requests::number_entries` meets its contract: the trees in the box that begins at (0, 0).
-use mathlib.Core.Path.{_≡_, sym, _∙_}
+use mathlib.Core.Path.{sym, _∙_}
 use Prim.Native.Nat.{_≤_, _<_}
 use native.Mathlib.Omega.{arith}
 use lib.Seq.{length-take-le}

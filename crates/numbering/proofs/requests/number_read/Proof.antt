@@ -1,5 +1,5 @@
 -- `numbering::requests::number_read` meets its contract: the request is read, and its entries are numbered.
-use mathlib.Core.Path.{_≡_, ap, sym, _∙_}
+use mathlib.Core.Path.{ap, sym, _∙_}
 use mathlib.Core.List.{List}
 use Prim.Native.Nat.{ℕ}
 use native.Mathlib.Omega.{arith}

@@ -1,7 +1,7 @@
 -- `numbering::trees::number_trees` meets its contract: a cycle of one, whose measure is the number of entries. The loop's invariant: what
 -- is left to number makes the whole.
 use mathlib.Core.Path.{_≡_, refl, ap₂, _∙_}
-use mathlib.Core.List.{List, []}
+use mathlib.Core.List.{[]}
 use Prim.Native.Nat.{ℕ, _+_, _-_, _<_}
 use native.Mathlib.Omega.{arith}
 use lib.ListN.{length, getD, set, take, drop, length-set}

@@ -1,12 +1,10 @@
 -- `refine::refining::carry_out` meets its contract: the request is read and numbered, judged, and written.
 use mathlib.Core.Path.{_≡_, ap, sym, _∙_}
-use mathlib.Core.List.{List, map}
-use Prim.Native.Nat.{ℕ}
+use mathlib.Core.List.{map}
 use native.Mathlib.Omega.{arith}
 use lib.ListN.{take}
 use denote.Ref.{now}
 use Rattle.rules.specs.Answers.{answer}
-use Rattle.request.specs.Entries.{quota}
 use Rattle.request.specs.Request.{entries}
 use Rattle.request.specs.inside.Says.{requestSays}
 use Rattle.table.specs.Columns.{Columns, columns}

@@ -1,5 +1,5 @@
 -- `separate::certifying::all_ranked` meets its contract. The loop's invariant: the rows passed stand at their ranks.
-use mathlib.Core.Path.{sym, _∙_}
+use mathlib.Core.Path.{sym}
 use mathlib.Core.Bool.{true≢false}
 use Prim.Native.Nat.{_-_}
 use denote.Ref.{now}
