@@ -22,7 +22,7 @@ work r = let w = r .read-rows .last .1 .1 .1 .1 .1 in columns (w .0) (w .1 .0) (
 found : (m : tie.At-match-came) → let s = start (m .before) in Copied (table s) (now (s .args .bytes)) (work (m .before)) (m .match .found) (m .match .count)
 found m =
     ⊎-elim
-    (λ x. copied-none (m .before .read-rows .ensures) (x .2) (x .1 .given .1) (x .3))
+    (λ x. copied-none (m .before .read-rows .ensures) (x .2) (x .1 .given .1) (omega (arith, x .3)))
     (λ x. copied-all (m .before .read-rows .ensures) (x .3) (x .1 .given .1) (x .4))
     (m .match .came)
 
