@@ -1,6 +1,7 @@
 -- `load::read` meets its contract: the rows that were found are copied, and none where the read is refused.
 use mathlib.Core.Path.{_∙_}
 use mathlib.Core.Logic.{⊎-elim}
+use native.Mathlib.Omega.{arith}
 use denote.Ref.{now}
 use borrow.Author.Needs.{needs}
 use Rattle.table.specs.Columns.{Columns, columns}
