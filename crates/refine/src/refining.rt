@@ -18,7 +18,7 @@ use table::Counted;
 use table::check_columns;
 
 // A request to a sound table. The work columns take its entries: ids, quotas, and the quotas before each in L and in R.
-fn carry_out(
+fn explode(
     id: &mut [u32],
     l: &mut [u32],
     r: &mut [u32],
@@ -90,7 +90,7 @@ pub fn refine(
             let mut quotas = [0; ENTRY_CAPACITY];
             let mut before_l = [0; ENTRY_CAPACITY];
             let mut before_r = [0; ENTRY_CAPACITY];
-            carry_out(
+            explode(
                 id,
                 l,
                 r,

@@ -73,9 +73,9 @@ answer-countable t request h = go (refined (t .columns) (t .count) request) (λ 
 -- ## A line
 
 -- the room for the text, by what is left for the lines
-pub short-same : (room bytes : ℕ) → tableRoom ≤ room → ltb ((room - tableRoom) / lineRoom) bytes ≡ ltb room (growRoom bytes)
+pub room-same : (room bytes : ℕ) → tableRoom ≤ room → ltb ((room - tableRoom) / lineRoom) bytes ≡ ltb room (growRoom bytes)
 unfolding growRoom
-short-same room bytes h =
+room-same room bytes h =
     by-lt room (lineRoom * bytes + tableRoom)
     (λ k. lt-ltb ((room - tableRoom) / lineRoom) bytes (omega arith) ∙ sym (lt-ltb room (lineRoom * bytes + tableRoom) k))
     (λ k. le-ltb ((room - tableRoom) / lineRoom) bytes (omega arith) ∙ sym (le-ltb room (lineRoom * bytes + tableRoom) k))

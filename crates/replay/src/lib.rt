@@ -32,7 +32,7 @@ const TABLE_ROOM: usize = 16384;
 const LINE_ROOM: usize = 14;
 
 // The text's buffer is too short for some log of this length.
-fn too_short(bytes: usize, room: usize) -> bool
+fn no_room(bytes: usize, room: usize) -> bool
     ensures { λ t. ⌜ t ≡ ltb room (growRoom bytes) ⌝ }
 {
     if room < TABLE_ROOM {
@@ -125,7 +125,7 @@ pub fn grow(
     ensures { λ t. ⌜ new text ≡ growBuffer (oldColumns id l r q) (old log) (old text) ⌝ }
     ensures { λ t. ⌜ newColumns id l r q ≡ growTable (oldColumns id l r q) (old log) (old text) ⌝ }
 {
-    if too_short(log.len(), text.len()) {
+    if no_room(log.len(), text.len()) {
         return Written::Refused(Refusal::BufferShort);
     }
     match pair_of(log) {

@@ -19,7 +19,7 @@ use Rattle.replay.proofs.grow.Tie as tie
 abbrev table : tie.Start → Columns
 table s = let a = s .args in columns (now (a .id)) (now (a .l)) (now (a .r)) (now (a .q))
 
-abbrev start : tie.After-too-short → tie.Start
+abbrev start : tie.After-no-room → tie.Start
 start t = search
 
 -- after fresh: where it was called, and where the pair was read
@@ -31,13 +31,13 @@ paired f = f .before .before .before .before .before .before
 
 -- there is room for any log of this length
 room : (e : tie.Else1) → let s = start (e .before) in growRoom (length (now (s .args .log))) ≤ length (now (s .args .text))
-room e = let s = start (e .before) in ltb-false (length (now (s .args .text))) (growRoom (length (now (s .args .log)))) (sym (e .before .too-short .ensures) ∙ e .if1 .left)
+room e = let s = start (e .before) in ltb-false (length (now (s .args .text))) (growRoom (length (now (s .args .log)))) (sym (e .before .no-room .ensures) ∙ e .if1 .left)
 
 returns : tie.Need-returns
 returns c =
     let s = start (c .before) in
     no-room (table s) (now (s .args .log)) (now (s .args .text))
-    (ltb-true (length (now (s .args .text))) (growRoom (length (now (s .args .log)))) (sym (c .before .too-short .ensures) ∙ c .if1 .taken))
+    (ltb-true (length (now (s .args .text))) (growRoom (length (now (s .args .log)))) (sym (c .before .no-room .ensures) ∙ c .if1 .taken))
 
 returns-2 : tie.Need-returns-2
 returns-2 c =

@@ -1,4 +1,4 @@
--- `refine::refining::carry_out` meets its contract: the request is read and numbered, judged, and written.
+-- `refine::refining::explode` meets its contract: the request is read and numbered, judged, and written.
 use mathlib.Core.Path.{_≡_, ap, sym, _∙_}
 use mathlib.Core.List.{map}
 use native.Mathlib.Omega.{arith}
@@ -13,8 +13,8 @@ use Rattle.refine.specs.inside.Judging.{judgedIn, judgedSays}
 use Rattle.refine.proofs.Accepting.{passed}
 use Rattle.refine.proofs.Carrying.{Given, given, unread, refuses, ids-front, quotas-front, judged-refused, asks, lands}
 use borrow.Author.Needs.{needs}
-use Rattle.refine.proofs.refining.carry_out.Statement.{statement}
-use Rattle.refine.proofs.refining.carry_out.Tie as tie
+use Rattle.refine.proofs.refining.explode.Statement.{statement}
+use Rattle.refine.proofs.refining.explode.Tie as tie
 
 abbrev cols : tie.Start → Columns
 cols s = let a = s .args in columns (now (a .id)) (now (a .l)) (now (a .r)) (now (a .q))
@@ -51,8 +51,8 @@ row-at : (c : tie.After-known-told4)
     answer (c .before .own .given .0 .0) ≡ judgedIn (now (a .id)) (now (a .q)) (a .count) (v .0) (take (v .1 .1 .0) (k .before .before .before .number-request .last .1 .0)) (v .1 .1 .1 .0)
 row-at c = sym (ap judgedSays (c .before .own .given .1)) ∙ c .before .before .before .judge .ensures
 
-pub carry-out-spec : {M : Type 1} → statement M
-carry-out-spec =
+pub explode-spec : {M : Type 1} → statement M
+explode-spec =
     tie.close
     (tie.spec
     (λ c κs. search needs) (λ c. search needs) (λ c. search needs)
