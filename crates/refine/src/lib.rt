@@ -12,3 +12,14 @@ enum Judged {
     Row(usize),
     Refused(Refusal),
 }
+
+// What a request to a table comes to.
+enum Verdict {
+    // The exploded id, its row, and the number of entries.
+    Accepted {
+        exploded: u32,
+        own: usize,
+        entries: usize,
+    },
+    Refused(Refusal),
+}

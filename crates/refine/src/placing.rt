@@ -1,10 +1,10 @@
 // The rows of an accepted request, written column by column.
 ghost use mathlib.Core.Path.{_≡_};
 ghost use Prim.Native.Nat.{_≤_};
-ghost use lib.ListN.{length, getD, take};
+ghost use lib.ListN.{length, take};
 ghost use Rattle.rules.specs.Lent.{old, new};
-ghost use Rattle.table.specs.Lent.{oldColumns, newColumns};
-ghost use Rattle.refine.specs.inside.Placing.{placed, placedAll, HasRows, Bounded};
+ghost use Rattle.table.specs.Lent.{oldColumns, newColumns, lentColumns};
+ghost use Rattle.refine.specs.inside.Placing.{placed, placedAll, HasRows, Bounded, CanPlace};
 
 // Writes the entries' values, with `base` added, into one column: that of the exploded id at row `own`, the others at the rows from
 // `next` on.
@@ -52,10 +52,7 @@ pub(crate) fn place_entries(
     before_r: &[u32],
     entries: usize,
 )
-    requires { ⌜ (entries ≤ length (now ids)) × (entries ≤ length (now quotas)) × (entries ≤ length (now «before_l»)) × (entries ≤ length (now «before_r»)) ⌝ }
-    requires { ⌜ (length (now l) ≡ length (now id)) × (length (now r) ≡ length (now id)) × (length (now q) ≡ length (now id)) ⌝ }
-    requires { ⌜ (next ≤ length (now id)) × HasRows exploded own next (take entries (now ids)) (now id) ⌝ }
-    requires { ⌜ Bounded (getD (now l) own 0) (take entries (now «before_l»)) × Bounded (getD (now r) own 0) (take entries (now «before_r»)) ⌝ }
+    requires { ⌜ CanPlace exploded own next entries (now ids) (now quotas) (now «before_l») (now «before_r») (lentColumns id l r q) ⌝ }
     ensures { λ _. ⌜ newColumns id l r q ≡ placedAll exploded own next entries (old ids) (old quotas) (old «before_l») (old «before_r») (oldColumns id l r q) ⌝ }
 {
     let old_l = l[own];

@@ -1,4 +1,5 @@
 -- Writing the entries of an accepted request into the columns: the exploded id's row, and the next rows for the others.
+use mathlib.Core.Path.{_≡_}
 use mathlib.Core.Bool.{cond}
 use mathlib.Core.List.{List, [], _∷_}
 use Prim.Native.Nat.{ℕ, suc, _+_, _≤_, _<_}
@@ -30,3 +31,17 @@ HasRows u own next ids column = (own < next) × (next + length ids ≤ length co
 -- no value passes the greatest number
 abbrev pub Bounded : ℕ → List ℕ → Type 0
 Bounded base values = (k : ℕ) → k < length values → base + getD values k 0 ≤ greatest
+
+-- n entries can be written: they stand in the work columns, the table's columns have their rows, and the numbers fit
+pub record CanPlace (u own next n : ℕ) (ids quotas l r : List ℕ) (c : Columns) : Type 0 where
+  pub in-ids : n ≤ length ids
+  pub in-quotas : n ≤ length quotas
+  pub in-before-l : n ≤ length l
+  pub in-before-r : n ≤ length r
+  pub l-same : length (c .l) ≡ length (c .id)
+  pub r-same : length (c .r) ≡ length (c .id)
+  pub q-same : length (c .q) ≡ length (c .id)
+  pub next-in : next ≤ length (c .id)
+  pub has-rows : HasRows u own next (take n ids) (c .id)
+  pub l-bounded : Bounded (getD (c .l) own 0) (take n l)
+  pub r-bounded : Bounded (getD (c .r) own 0) (take n r)

@@ -15,7 +15,7 @@ use Rattle.refine.proofs.placing.place_entries.Tie as tie
 -- what a column asks: its rows, and bounds on its values
 rows-at : (s : tie.Start) (column : List ℕ) → length column ≡ length (now (s .args .id))
     → HasRows (s .args .exploded) (s .args .own) (s .args .next) (take (s .args .entries) (now (s .args .ids))) column
-rows-at s column e = let h = s .pre .1 .1 .0 .1 in (h .0, omega (arith, h .1))
+rows-at s column e = let h = s .pre .has-rows in (h .0, omega (arith, h .1))
 
 bounds : (s : List ℕ) (n : ℕ) → n ≤ length s → ((k : ℕ) → getD s k 0 ≤ greatest) → Bounded 0 (take n s)
 bounds s n h b k m =
@@ -30,24 +30,24 @@ place-entries-spec =
     (λ c. search needs) (λ c. search needs) (λ c. search needs) (λ c. search needs)
     (λ c κs.
     let s : tie.Start = search in
-    let p = s .pre .0 in
-    ((p .0, p .0), (rows-at s (now (s .args .id)) refl, bounds _ _ (p .0) (λ k. omega (arith, c .before .before .before .before .before .before .shared-slice-known .given k)))))
+    let p = s .pre in
+    ((p .in-ids, p .in-ids), (rows-at s (now (s .args .id)) refl, bounds _ _ (p .in-ids) (λ k. omega (arith, c .before .before .before .before .before .before .shared-slice-known .given k)))))
     (λ c κs.
     let s : tie.Start = search in
-    let p = s .pre .0 in
-    ((p .0, p .2), (rows-at s (now (s .args .l)) (s .pre .1 .0 .0), s .pre .1 .1 .1 .0)))
+    let p = s .pre in
+    ((p .in-ids, p .in-before-l), (rows-at s (now (s .args .l)) (s .pre .l-same), s .pre .l-bounded)))
     (λ c κs.
     let s : tie.Start = search in
-    let p = s .pre .0 in
-    ((p .0, p .3), (rows-at s (now (s .args .r)) (s .pre .1 .0 .1), s .pre .1 .1 .1 .1)))
+    let p = s .pre in
+    ((p .in-ids, p .in-before-r), (rows-at s (now (s .args .r)) (s .pre .r-same), s .pre .r-bounded)))
     (λ c κs.
     let s : tie.Start = search in
     let known = c .before .before .before .before .before .before .before .before .before .before .before .before .before .before .before .before .before in
-    let p = s .pre .0 in (
-      (p .0, p .1),
+    let p = s .pre in (
+      (p .in-ids, p .in-quotas),
       (
-        rows-at s (now (s .args .q)) (s .pre .1 .0 .2),
-        bounds _ _ (p .1)
+        rows-at s (now (s .args .q)) (s .pre .q-same),
+        bounds _ _ (p .in-quotas)
             (λ k. omega (arith, known .shared-slice-known2 .given k)),
       ),
     ))

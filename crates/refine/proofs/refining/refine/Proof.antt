@@ -1,18 +1,82 @@
--- `refine::refining::refine` meets its contract: the check, and then the request.
-use Rattle.refine.specs.Refine.{refined}
-use Rattle.table.proofs.Passing.{sound, unsound}
+-- `refine::refining::refine` meets its contract: the request is judged, and then written.
+use mathlib.Core.Path.{subst, _∙_}
+use denote.Ref.{now}
+use Rattle.table.specs.Columns.{Columns, columns}
+use Rattle.refine.specs.declared.Verdict.the-variants as verdict
+use native.Mathlib.Omega.{arith}
+use Rattle.refine.specs.inside.Verdicts.{Settles}
+use Rattle.refine.proofs.Carrying.{refuses}
 use borrow.Author.Needs.{needs}
 use Rattle.refine.proofs.refining.refine.Statement.{statement}
 use Rattle.refine.proofs.refining.refine.Tie as tie
 
+abbrev cols : tie.Start → Columns
+cols s = let a = s .args in columns (now (a .id)) (now (a .l)) (now (a .r)) (now (a .q))
+
+abbrev before-judging : tie.After-judge-request → tie.Start
+before-judging j = j .before .before .before .before .before .before .before .before .before .before .before .before .before .before
+
+abbrev judged : tie.After-known-told2 → tie.After-judge-request
+judged k = k .before .before .before
+
+abbrev start : tie.After-known-told2 → tie.Start
+start k = before-judging (judged k)
+
+settled : (k : tie.After-known-told2)
+    → let s = start k in
+    let a = s .args in
+    let w = judged k .judge-request .last .1 .1 .1 .1 .1 .1 in
+    let v = k .before .exploded .given .0 in
+    Settles (cols s) (a .count) (now (a .request)) (w .0) (w .1 .0) (w .1 .1 .0) (w .1 .1 .1 .0) (verdict.Accepted (v .0) (v .1 .0) (v .1 .1 .0))
+settled k =
+    let s = start k in
+    let a = s .args in
+    let w = judged k .judge-request .last .1 .1 .1 .1 .1 .1 in
+    subst (Settles (cols s) (a .count) (now (a .request)) (w .0) (w .1 .0) (w .1 .1 .0) (w .1 .1 .1 .0)) (k .before .exploded .given .1) (judged k .judge-request .ensures)
+
 pub refine-spec : {M : Type 1} → statement M
-unfolding refined
 refine-spec =
     tie.close
     (tie.spec
     (λ c κs. search needs) (λ c. search needs) (λ c. search needs)
-    (λ c κs. let e : tie.After-enum-told = search in sound _ _ (e .before .before .check-columns .ensures) (e .enum-told .given .1) .1)
+    (λ c.
+    let k : tie.After-known-told2 = search in
+    let w = settled k in
+    omega (arith, w .0 .0))
+    (λ c.
+    let k : tie.After-known-told2 = search in
+    let w = settled k in
+    omega (arith, w .0 .1))
+    (λ c.
+    let k : tie.After-known-told2 = search in
+    let w = settled k in
+    omega (arith, w .0 .2))
+    (λ c.
+    let k : tie.After-known-told2 = search in
+    let w = settled k in
+    omega (arith, w .0 .3))
+    (λ c κs.
+    let k : tie.After-known-told2 = search in
+    let w = settled k in
+    w .1)
+    (λ c.
+    let k : tie.After-known-told2 = search in
+    let w = settled k in
+    omega (arith, w .1 .next-in, w .1 .in-ids, w .0 .0, start k .good))
+    (λ c.
+    let k : tie.After-known-told2 = search in
+    let w = settled k in
+    omega (arith, w .1 .has-rows .0))
     (λ c. search needs) (λ c. search needs) (λ c. search needs) (λ c. search needs)
-    (λ c. let e = unsound _ _ (c .before .before .before .check-columns .ensures) (c .before .why .given .1) in (rw e, rw e))
+    (λ c.
+    let j = c .before .before .before in
+    let s = before-judging j in
+    let a = s .args in
+    let w = j .judge-request .last .1 .1 .1 .1 .1 .1 in
+    refuses (cols s) _ _ (subst (Settles (cols s) (a .count) (now (a .request)) (w .0) (w .1 .0) (w .1 .1 .0) (w .1 .1 .1 .0)) (c .before .why .given .1) (j .judge-request .ensures)))
     (λ c. search needs) (λ c. search needs) (λ c. search needs) (λ c. search needs)
-    (λ c. search needs))
+    (λ c.
+    let k : tie.After-known-told2 = search in
+    let e : tie.After-place-entries = search in
+    let w = settled k in
+    (w .2, e .place-entries .ensures ∙ w .3)))
