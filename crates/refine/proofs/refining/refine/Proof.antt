@@ -1,5 +1,5 @@
 -- `refine::refining::refine` meets its contract: the request is judged, and then written.
-use mathlib.Core.Path.{subst, _∙_}
+use mathlib.Core.Path.{refl, sym, subst, _∙_}
 use denote.Ref.{now}
 use Rattle.table.specs.Columns.{Columns, columns}
 use Rattle.refine.specs.declared.Verdict.the-variants as verdict
@@ -22,6 +22,15 @@ judged k = k .before .before .before
 abbrev start : tie.After-known-told2 → tie.Start
 start k = before-judging (judged k)
 
+abbrev accepted : tie.After-ids2 → tie.After-known-told2
+accepted c = c .before .before .before .before .before
+
+abbrev lent : tie.After-place-entries → tie.After-ids2
+lent c = c .before .before .before .before
+
+abbrev wrote : tie.After-slice-known8 → tie.After-place-entries
+wrote c = c .before .before .before .before .before .before .before .before
+
 settled : (k : tie.After-known-told2)
     → let s = start k in
     let a = s .args in
@@ -39,35 +48,19 @@ refine-spec =
     tie.close
     (tie.spec
     (λ c κs. search needs) (λ c. search needs) (λ c. search needs)
+    (λ c. sym (settled (accepted c) .0 .0))
+    (λ c. sym (settled (accepted (c .before)) .0 .1))
+    (λ c. sym (settled (accepted (c .before .before)) .0 .2))
+    (λ c. sym (settled (accepted (c .before .before .before)) .0 .3))
+    (λ c κs. settled (accepted (c .before .before .before)) .1)
     (λ c.
-    let k : tie.After-known-told2 = search in
-    let w = settled k in
-    omega (arith, w .0 .0))
-    (λ c.
-    let k : tie.After-known-told2 = search in
-    let w = settled k in
-    omega (arith, w .0 .1))
-    (λ c.
-    let k : tie.After-known-told2 = search in
-    let w = settled k in
-    omega (arith, w .0 .2))
-    (λ c.
-    let k : tie.After-known-told2 = search in
-    let w = settled k in
-    omega (arith, w .0 .3))
-    (λ c κs.
-    let k : tie.After-known-told2 = search in
-    let w = settled k in
-    w .1)
-    (λ c.
-    let k : tie.After-known-told2 = search in
+    let k = accepted (lent (wrote c)) in
     let w = settled k in
     omega (arith, w .1 .next-in, w .1 .in-ids, w .0 .0, start k .good))
     (λ c.
-    let k : tie.After-known-told2 = search in
-    let w = settled k in
+    let w = settled (accepted (lent (wrote c))) in
     omega (arith, w .1 .has-rows .0))
-    (λ c. search needs) (λ c. search needs) (λ c. search needs) (λ c. search needs)
+    (λ c. refl) (λ c. refl) (λ c. refl) (λ c. refl)
     (λ c.
     let j = c .before .before .before in
     let s = before-judging j in
@@ -76,7 +69,6 @@ refine-spec =
     refuses (cols s) _ _ (subst (Settles (cols s) (a .count) (now (a .request)) (w .0) (w .1 .0) (w .1 .1 .0) (w .1 .1 .1 .0)) (c .before .why .given .1) (j .judge-request .ensures)))
     (λ c. search needs) (λ c. search needs) (λ c. search needs) (λ c. search needs)
     (λ c.
-    let k : tie.After-known-told2 = search in
-    let e : tie.After-place-entries = search in
-    let w = settled k in
+    let e = wrote c in
+    let w = settled (accepted (lent e)) in
     (w .2, e .place-entries .ensures ∙ w .3)))
