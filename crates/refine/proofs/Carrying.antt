@@ -1,15 +1,16 @@
 -- A request that was read and judged: what the code asks and leaves, from what its calls say.
 use mathlib.Core.Path.{_≡_, ap, sym, _∙_}
 use mathlib.Core.Bool.{Bool}
-use mathlib.Core.List.{List, map}
-use Prim.Native.Nat.{ℕ, _+_, _-_, _≤_, _<_}
+use mathlib.Core.List.{List, [], _∷_, _++_, map, map-append}
+use Prim.Native.Nat.{ℕ, zero, suc, _+_, _-_, _≤_, _<_}
 use native.Mathlib.Omega.{arith}
 use lib.ListN.{length, getD, take, length-map}
 use lib.Seq.{sets, length-sets}
 use borrow.Author.Tests.{le-leb}
 use Rattle.rules.specs.Answers.{Answer, answer, refused, then}
 use Rattle.rules.specs.Capacities.{entryCapacity}
-use Rattle.rules.specs.Limits.{mostEntries}
+use Rattle.rules.specs.Limits.{greatest, mostEntries}
+use Rattle.rules.specs.Buffers.{Bytes}
 use Rattle.rules.proofs.Answers.{same-answer, never-refused, by-answer, then-answer, then-refused}
 use Rattle.request.specs.Entries.{Entry, quota, before}
 use Rattle.request.specs.Numbering.{whole}
@@ -19,8 +20,10 @@ use Rattle.request.specs.Acceptance.{accepted}
 use Rattle.request.specs.inside.Work.{Summary, summary}
 use Rattle.request.proofs.Accepting.{request-accepted}
 use Rattle.request.proofs.Numbering.{size-length}
-use Rattle.request.proofs.ReadLaws.{request-read}
-use Rattle.table.specs.Columns.{Row, Columns, rows, counted, afterwards}
+use Rattle.request.proofs.ReadLaws.{request-read, request-legal}
+use Rattle.request.specs.Forest.{Forest, none, tree, preL}
+use Rattle.request.specs.Legal.{LegalNumber, LegalTrees}
+use Rattle.table.specs.Columns.{Row, Columns, columns, rows, counted, afterwards}
 use Rattle.table.specs.Check.{checked}
 use Rattle.table.specs.Places.{placeOf}
 use Rattle.numbering.specs.Numbered.{EntriesIn, leftNumbers, rightNumbers}
@@ -69,6 +72,9 @@ unread c n bytes good e = rw (good, then-refused (requestOf bytes) _ (sym e))
 pub refuses : (c : Columns) (found : Answer (List Row)) (k : ℕ) → found ≡ refused k → (refused k ≡ counted found) × (c ≡ afterwards found c)
 refuses c found k e = (rw e, rw e)
 
+pub columns-are : {id id′ l l′ r r′ q q′ : List ℕ} → id ≡ id′ → l ≡ l′ → r ≡ r′ → q ≡ q′ → columns id l r q ≡ columns id′ l′ r′ q′
+columns-are a b c d = rw (a, b, c, d)
+
 -- a work column keeps its length
 pub filled : (s vs : List ℕ) {s′ : List ℕ} → s′ ≡ sets s 0 vs → length s ≡ entryCapacity → length s′ ≡ entryCapacity
 filled s vs e k = ap length e ∙ length-sets s 0 vs ∙ k
@@ -93,6 +99,23 @@ module _ {bytes : List ℕ} {x m z : ℕ} (g : Given bytes x m z) (ids ids′ qu
 
   pub quotas-length : length quotas ≡ entryCapacity → length quotas′ ≡ entryCapacity
   quotas-length = filled quotas (map quota (entries (g .request))) (stands .1)
+
+-- ids and quotas are at most the greatest number
+append-most : (s t : List ℕ) → ((k : ℕ) → getD s k 0 ≤ greatest) → ((k : ℕ) → getD t k 0 ≤ greatest) → (k : ℕ) → getD (s ++ t) k 0 ≤ greatest
+append-most [] t a b k = b k
+append-most (x ∷ s) t a b zero = a 0
+append-most (x ∷ s) t a b (suc k) = append-most s t (λ j. a (suc j)) b k
+
+legal-most : (f : Entry → ℕ) → ((e : Entry) → LegalNumber (e .id) × LegalNumber (e .quota) → f e ≤ greatest) → (t : Forest) → LegalTrees t → (k : ℕ) → getD (map f (preL t)) k 0 ≤ greatest
+legal-most f h none a k = omega arith
+legal-most f h (tree e c r) a zero = h e (a .0, a .1)
+legal-most f h (tree e c r) a (suc k) = rw (map-append f (preL c) (preL r)) (append-most (map f (preL c)) (map f (preL r)) (legal-most f h c (a .2)) (legal-most f h r (a .3)) k)
+
+legal-ids : (t : Forest) → LegalTrees t → (k : ℕ) → getD (map (λ e. e .id) (preL t)) k 0 ≤ greatest
+legal-ids = legal-most (λ e. e .id) (λ e a. a .0 .1)
+
+legal-quotas : (t : Forest) → LegalTrees t → (k : ℕ) → getD (map quota (preL t)) k 0 ≤ greatest
+legal-quotas = legal-most quota (λ e a. a .1 .1)
 
 -- numbers at the front of a column
 numbers-front : {bytes : List ℕ} {x m z : ℕ} (g : Given bytes x m z) (s s′ vs : List ℕ) (f : Entry → ℕ) → s′ ≡ sets s 0 vs → vs ≡ map f (entries (g .request)) → length s ≡ entryCapacity
@@ -145,7 +168,7 @@ module _ (c : Columns) (n : ℕ) (good : checked c n ≡ answer (rows c n)) {byt
 
       -- what it leaves
       lands : (quotas′ : List ℕ) → take m quotas′ ≡ map quota (entries (g .request))
-          → (answer (n + m - 1) ≡ counted (refined c n bytes)) × (placedAll x i n m ids′ quotas′ l′ r′ c ≡ afterwards (refined c n bytes) c)
+          → (answer (n + m - 1) ≡ counted (refined c n bytes)) × (placedAll x i n (getD (c .l) i 0) (getD (c .r) i 0) m ids′ quotas′ l′ r′ c ≡ afterwards (refined c n bytes) c)
       unfolding refined explodedRows
       lands quotas′ eq =
           rw (good, g .is, ok) (
@@ -153,24 +176,26 @@ module _ (c : Columns) (n : ℕ) (good : checked c n ≡ answer (rows c n)) {byt
             rw (own-is, g .exploded-is) (columns-after c n good bytes (g .is) ok inside m ids′ quotas′ l′ r′ (ids-front) eq l-front r-front),
           )
 
-      pub settles : (quotas′ : List ℕ) → take m quotas′ ≡ map quota (entries (g .request)) → length ids′ ≡ entryCapacity → length quotas′ ≡ entryCapacity
-          → Settles c n bytes ids′ quotas′ l′ r′ (verdict.Accepted x i m)
-      settles quotas′ eq il ql =
+      pub settles : Bytes bytes → (quotas′ : List ℕ) → take m quotas′ ≡ map quota (entries (g .request)) → length ids′ ≡ entryCapacity → length quotas′ ≡ entryCapacity
+          → Settles c n bytes ids′ quotas′ l′ r′ (verdict.Accepted x i (getD (c .l) i 0) (getD (c .r) i 0) m)
+      settles b quotas′ eq il ql =
           let p = passed c n good in
           let bound = g .entries-most in
-          let ll′ = filled l (leftNumbers (requestOf bytes)) hl ll in
-          let rl′ = filled r (rightNumbers (requestOf bytes)) hr rl in
-          let place : CanPlace x i n m ids′ quotas′ l′ r′ c = record {
+          let legal = request-legal bytes b (g .is) .trees in
+          let place : CanPlace x i n (getD (c .l) i 0) (getD (c .r) i 0) m ids′ quotas′ l′ r′ c = record {
+            most = omega (arith, bound);
             in-ids = omega (arith, bound, il);
             in-quotas = omega (arith, bound, ql);
-            in-before-l = omega (arith, bound, ll′);
-            in-before-r = omega (arith, bound, rl′);
-            l-same = p .lengths .in-l;
-            r-same = p .lengths .in-r;
-            q-same = p .lengths .in-q;
+            in-before-l = omega (arith, bound, filled l (leftNumbers (requestOf bytes)) hl ll);
+            in-before-r = omega (arith, bound, filled r (rightNumbers (requestOf bytes)) hr rl);
             next-in = p .most;
-            has-rows = asks .0;
+            id-rows = asks .0;
+            l-rows = (asks .0 .0, omega (arith, asks .0 .1, p .lengths .in-l));
+            r-rows = (asks .0 .0, omega (arith, asks .0 .1, p .lengths .in-r));
+            q-rows = (asks .0 .0, omega (arith, asks .0 .1, p .lengths .in-q));
+            ids-bounded = λ k h. rw ids-front (omega (arith, legal-ids (g .request .trees) legal k));
             l-bounded = asks .1;
             r-bounded = asks .2;
+            quotas-bounded = λ k h. rw eq (omega (arith, legal-quotas (g .request .trees) legal k));
           } in
-          ((il, ql, ll′, rl′), place, lands quotas′ eq .0, lands quotas′ eq .1)
+          (place, lands quotas′ eq .0, lands quotas′ eq .1)

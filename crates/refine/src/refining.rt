@@ -11,7 +11,7 @@ ghost use Rattle.refine.specs.inside.Verdicts.{Settles};
 use crate::Judged;
 use crate::Verdict;
 use crate::judging::judge;
-use crate::placing::place_entries;
+use crate::placing::place;
 use numbering::number_request;
 use request::RequestRead;
 use rules::ENTRY_CAPACITY;
@@ -57,6 +57,8 @@ fn judge_request(
                 Judged::Row(own) => Verdict::Accepted {
                     exploded,
                     own,
+                    old_l: l[own],
+                    old_r: r[own],
                     entries,
                 },
             },
@@ -97,22 +99,32 @@ pub fn refine(
         Verdict::Accepted {
             exploded,
             own,
+            old_l,
+            old_r,
             entries,
         } => {
-            place_entries(
-                id,
-                l,
-                r,
-                q,
+            place(&mut *id, own, count, exploded, 0, &ids, &ids, entries);
+            place(
+                &mut *l,
                 own,
                 count,
                 exploded,
+                old_l,
                 &ids,
-                &quotas,
                 &before_l,
+                entries,
+            );
+            place(
+                &mut *r,
+                own,
+                count,
+                exploded,
+                old_r,
+                &ids,
                 &before_r,
                 entries,
             );
+            place(&mut *q, own, count, exploded, 0, &ids, &quotas, entries);
             Counted::Count(count + entries - 1)
         }
     }

@@ -1,8 +1,9 @@
 -- `refine::refining::judge_request` meets its contract: the table is checked, the request is read and numbered, and judged.
 use mathlib.Core.Path.{_≡_, ap, sym, _∙_}
 use mathlib.Core.List.{map}
+use Prim.Native.Nat.{_<_}
 use native.Mathlib.Omega.{arith}
-use lib.ListN.{take}
+use lib.ListN.{length, getD, take}
 use denote.Ref.{now}
 use Rattle.rules.specs.Answers.{answer}
 use Rattle.request.specs.Request.{entries}
@@ -12,6 +13,8 @@ use Rattle.table.specs.Columns.{Columns, columns, rows}
 use Rattle.table.proofs.Passing.{sound, unsound}
 use Rattle.refine.specs.Refine.{refined}
 use Rattle.refine.specs.inside.Judging.{judgedIn, judgedSays}
+use Rattle.refine.specs.inside.Verdicts.{Settles}
+use Rattle.refine.specs.declared.Verdict.the-variants as verdict
 use Rattle.refine.proofs.Accepting.{passed}
 use Rattle.refine.proofs.Carrying.{Given, given, unread, ids-front, quotas-front, ids-length, quotas-length, judged-refused, settles}
 use borrow.Author.Needs.{needs}
@@ -51,6 +54,45 @@ front-at k =
     let a = s .args in
     ids-front (given-at k) (now (a .ids)) (n .last .1 .0) (now (a .quotas)) (n .last .1 .1 .0) (n .ensures .1 .0) (s .pre .0 .0)
 
+settled : (c : tie.After-known-told5)
+    → let k = read (asked c) in
+    let s = start (table (numbered k)) in
+    let a = s .args in
+    let w = numbered k .number-request .last .1 in
+    let v = k .before .exploded .given .0 in
+    let i = c .before .own .given .0 .0 in
+    Settles (cols s) (a .count) (now (a .request)) (w .0) (w .1 .0) (w .1 .1 .0) (w .1 .1 .1 .0) (verdict.Accepted (v .0) i (getD (now (a .l)) i 0) (getD (now (a .r)) i 0) (v .1 .1 .0))
+settled c =
+    let k = read (asked c) in
+    let e = table (numbered k) in
+    let s = start e in
+    let a = s .args in
+    let n = numbered k .number-request in
+    let w = n .last .1 in
+    let g = given-at k in
+    let h = n .ensures .1 .0 in
+    let ids = now (a .ids) in
+    let quotas = now (a .quotas) in
+    let known = e .before .before .before in
+    settles (cols s) (a .count) (good-at e) g (w .0) (front-at k) (sym (ap judgedSays (c .before .own .given .1)) ∙ c .before .before .before .judge .ensures)
+    (now (a .before-l)) (w .1 .1 .0) (now (a .before-r)) (w .1 .1 .1 .0) (n .ensures .1 .1 .0) (n .ensures .1 .1 .1) (s .pre .1 .0) (s .pre .1 .1)
+    (λ i. omega (arith, known .shared-slice-known5 .given i))
+    (w .1 .0) (quotas-front g ids (w .0) quotas (w .1 .0) h (s .pre .0 .1)) (ids-length g ids (w .0) quotas (w .1 .0) h (s .pre .0 .0))
+    (quotas-length g ids (w .0) quotas (w .1 .0) h (s .pre .0 .1))
+
+-- its row is in the columns
+in-l : (c : tie.After-known-told5) → c .before .own .given .0 .0 < length (now (start (table (numbered (read (asked c)))) .args .l))
+in-l c =
+    let e = table (numbered (read (asked c))) in
+    let p = passed (cols (start e)) (start e .args .count) (good-at e) in
+    omega (arith, settled c .0 .id-rows .0, p .most, p .lengths .in-l)
+
+in-r : (c : tie.After-known-told5) → c .before .own .given .0 .0 < length (now (start (table (numbered (read (asked c)))) .args .r))
+in-r c =
+    let e = table (numbered (read (asked c))) in
+    let p = passed (cols (start e)) (start e .args .count) (good-at e) in
+    omega (arith, settled c .0 .id-rows .0, p .most, p .lengths .in-r)
+
 pub judge-request-spec : {M : Type 1} → statement M
 unfolding refined
 judge-request-spec =
@@ -68,6 +110,10 @@ judge-request-spec =
     let il = ids-length g (now (a .ids)) (n .last .1 .0) (now (a .quotas)) (n .last .1 .1 .0) (n .ensures .1 .0) (s .pre .0 .0) in
     ((p .most, p .lengths .most, p .lengths .in-q), (omega (arith, g .entries-most, il), il)))
     (λ c. search needs) (λ c. search needs)
+    (λ c. omega (arith, in-l c, start (table (numbered (read (asked c)))) .good))
+    (λ c. omega (arith, in-l (c .before)))
+    (λ c. omega (arith, in-r (c .before), start (table (numbered (read (asked (c .before))))) .good))
+    (λ c. omega (arith, in-r (c .before .before)))
     (λ c. rw (unsound _ _ (c .before .before .before .check-columns .ensures) (c .before .why .given .1)))
     (λ c.
     let n = c .before .before .before in
@@ -80,17 +126,4 @@ judge-request-spec =
     let s = start e in
     judged-refused (cols s) (s .args .count) (good-at e) (given-at k) (numbered k .number-request .last .1 .0) (front-at k)
     (sym (ap judgedSays (c .before .why3 .given .1)) ∙ c .before .before .before .judge .ensures))
-    (λ c.
-    let k = read (asked c) in
-    let e = table (numbered k) in
-    let s = start e in
-    let a = s .args in
-    let n = numbered k .number-request in
-    let g = given-at k in
-    let h = n .ensures .1 .0 in
-    let ids = now (a .ids) in
-    let quotas = now (a .quotas) in
-    settles (cols s) (a .count) (good-at e) g (n .last .1 .0) (front-at k) (sym (ap judgedSays (c .before .own .given .1)) ∙ c .before .before .before .judge .ensures)
-    (now (a .before-l)) (n .last .1 .1 .1 .0) (now (a .before-r)) (n .last .1 .1 .1 .1 .0) (n .ensures .1 .1 .0) (n .ensures .1 .1 .1) (s .pre .1 .0) (s .pre .1 .1)
-    (n .last .1 .1 .0) (quotas-front g ids (n .last .1 .0) quotas (n .last .1 .1 .0) h (s .pre .0 .1)) (ids-length g ids (n .last .1 .0) quotas (n .last .1 .1 .0) h (s .pre .0 .0))
-    (quotas-length g ids (n .last .1 .0) quotas (n .last .1 .1 .0) h (s .pre .0 .1))))
+    (λ c. settled (c .before .before)))
