@@ -81,17 +81,15 @@ settled c =
     (quotas-length g ids (w .0) quotas (w .1 .0) h (s .pre .0 .1))
 
 -- its row is in the columns
-in-l : (c : tie.After-known-told5) → c .before .own .given .0 .0 < length (now (start (table (numbered (read (asked c)))) .args .l))
-in-l c =
+row-in : (c : tie.After-known-told5)
+    → let i = c .before .own .given .0 .0 in
+    let a = start (table (numbered (read (asked c)))) .args in
+    (i < length (now (a .l))) × (i < length (now (a .r)))
+row-in c =
     let e = table (numbered (read (asked c))) in
     let p = passed (cols (start e)) (start e .args .count) (good-at e) in
-    omega (arith, settled c .0 .id-rows .0, p .most, p .lengths .in-l)
-
-in-r : (c : tie.After-known-told5) → c .before .own .given .0 .0 < length (now (start (table (numbered (read (asked c)))) .args .r))
-in-r c =
-    let e = table (numbered (read (asked c))) in
-    let p = passed (cols (start e)) (start e .args .count) (good-at e) in
-    omega (arith, settled c .0 .id-rows .0, p .most, p .lengths .in-r)
+    let h = settled c .0 .id-rows .0 in
+    (omega (arith, h, p .most, p .lengths .in-l), omega (arith, h, p .most, p .lengths .in-r))
 
 pub judge-request-spec : {M : Type 1} → statement M
 unfolding refined
@@ -110,10 +108,10 @@ judge-request-spec =
     let il = ids-length g (now (a .ids)) (n .last .1 .0) (now (a .quotas)) (n .last .1 .1 .0) (n .ensures .1 .0) (s .pre .0 .0) in
     ((p .most, p .lengths .most, p .lengths .in-q), (omega (arith, g .entries-most, il), il)))
     (λ c. search needs) (λ c. search needs)
-    (λ c. omega (arith, in-l c, start (table (numbered (read (asked c)))) .good))
-    (λ c. omega (arith, in-l (c .before)))
-    (λ c. omega (arith, in-r (c .before), start (table (numbered (read (asked (c .before))))) .good))
-    (λ c. omega (arith, in-r (c .before .before)))
+    (λ c. omega (arith, row-in c, start (table (numbered (read (asked c)))) .good))
+    (λ c. omega (arith, row-in (c .before)))
+    (λ c. omega (arith, row-in (c .before), start (table (numbered (read (asked (c .before))))) .good))
+    (λ c. omega (arith, row-in (c .before .before)))
     (λ c. rw (unsound _ _ (c .before .before .before .check-columns .ensures) (c .before .why .given .1)))
     (λ c.
     let n = c .before .before .before in
