@@ -144,7 +144,7 @@ module _ (c : Columns) (n : ℕ) (good : checked c n ≡ answer (rows c n)) (byt
 
     -- the columns that the code leaves
     pub columns-after : (m : ℕ) (w s l r : List ℕ) → take m w ≡ ids → take m s ≡ map quota (entries a) → take m l ≡ map (λ e. 0 + before (e .id) (leftOf a)) (entries a)
-        → take m r ≡ map (λ e. 0 + before (e .id) (rightOf a)) (entries a) → placedAll (a .exploded) own n m w s l r c ≡ put (refineRows a (rows c n)) c
+        → take m r ≡ map (λ e. 0 + before (e .id) (rightOf a)) (entries a) → placedAll (a .exploded) own n (getD (c .l) own 0) (getD (c .r) own 0) m w s l r c ≡ put (refineRows a (rows c n)) c
     unfolding put
     columns-after m w s l r ew es el er =
         let lens = passed c n good .lengths in

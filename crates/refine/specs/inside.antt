@@ -1,3 +1,4 @@
 pub mod Ids
 pub mod Judging
 pub mod Placing
+pub mod Verdicts

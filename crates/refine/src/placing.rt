@@ -1,24 +1,25 @@
 // The rows of an accepted request, written column by column.
 ghost use mathlib.Core.Path.{_≡_};
 ghost use Prim.Native.Nat.{_≤_};
-ghost use lib.ListN.{length, getD, take};
+ghost use lib.ListN.{length, take};
+ghost use Rattle.rules.specs.Capacities.{entryCapacity};
 ghost use Rattle.rules.specs.Lent.{old, new};
-ghost use Rattle.table.specs.Lent.{oldColumns, newColumns};
-ghost use Rattle.refine.specs.inside.Placing.{placed, placedAll, HasRows, Bounded};
+ghost use Rattle.refine.specs.inside.Placing.{placed, HasRows, Bounded};
+use rules::ENTRY_CAPACITY;
 
 // Writes the entries' values, with `base` added, into one column: that of the exploded id at row `own`, the others at the rows from
 // `next` on.
-fn place(
+pub(crate) fn place(
     column: &mut [u32],
     own: usize,
     next: usize,
     exploded: u32,
     base: u32,
-    ids: &[u32],
-    values: &[u32],
+    ids: &[u32; ENTRY_CAPACITY],
+    values: &[u32; ENTRY_CAPACITY],
     entries: usize,
 )
-    requires { ⌜ (entries ≤ length (now ids)) × (entries ≤ length (now values)) ⌝ }
+    requires { ⌜ (entries ≤ entryCapacity) × (entries ≤ length (now ids)) × (entries ≤ length (now values)) ⌝ }
     requires { ⌜ HasRows exploded own next (take entries (now ids)) (now column) ⌝ }
     requires { ⌜ Bounded base (take entries (now values)) ⌝ }
     ensures { λ _. ⌜ new column ≡ placed exploded own next base (take entries (old ids)) (take entries (old values)) (old column) ⌝ }
@@ -35,33 +36,4 @@ fn place(
         }
         i += 1;
     }
-}
-
-// Writes the entries into all four columns; `before_l` and `before_r` are the quotas before each in L and in R.
-pub(crate) fn place_entries(
-    id: &mut [u32],
-    l: &mut [u32],
-    r: &mut [u32],
-    q: &mut [u32],
-    own: usize,
-    next: usize,
-    exploded: u32,
-    ids: &[u32],
-    quotas: &[u32],
-    before_l: &[u32],
-    before_r: &[u32],
-    entries: usize,
-)
-    requires { ⌜ (entries ≤ length (now ids)) × (entries ≤ length (now quotas)) × (entries ≤ length (now «before_l»)) × (entries ≤ length (now «before_r»)) ⌝ }
-    requires { ⌜ (length (now l) ≡ length (now id)) × (length (now r) ≡ length (now id)) × (length (now q) ≡ length (now id)) ⌝ }
-    requires { ⌜ (next ≤ length (now id)) × HasRows exploded own next (take entries (now ids)) (now id) ⌝ }
-    requires { ⌜ Bounded (getD (now l) own 0) (take entries (now «before_l»)) × Bounded (getD (now r) own 0) (take entries (now «before_r»)) ⌝ }
-    ensures { λ _. ⌜ newColumns id l r q ≡ placedAll exploded own next entries (old ids) (old quotas) (old «before_l») (old «before_r») (oldColumns id l r q) ⌝ }
-{
-    let old_l = l[own];
-    let old_r = r[own];
-    place(&mut *id, own, next, exploded, 0, ids, ids, entries);
-    place(&mut *l, own, next, exploded, old_l, ids, before_l, entries);
-    place(&mut *r, own, next, exploded, old_r, ids, before_r, entries);
-    place(&mut *q, own, next, exploded, 0, ids, quotas, entries);
 }

@@ -1,15 +1,17 @@
 // Refine: the check, the request, the refusals 20 to 24, and then the rows.
 ghost use mathlib.Core.Path.{_≡_};
-ghost use Rattle.rules.specs.Answers.{answer};
-ghost use Rattle.rules.specs.Lent.{old};
-ghost use Rattle.table.specs.Columns.{rows, counted, afterwards};
-ghost use Rattle.table.specs.Check.{checked};
-ghost use Rattle.table.specs.Lent.{oldColumns, newColumns, lentColumns};
+ghost use lib.ListN.{length};
+ghost use Rattle.rules.specs.Capacities.{entryCapacity};
+ghost use Rattle.rules.specs.Lent.{old, new};
+ghost use Rattle.table.specs.Columns.{counted, afterwards};
+ghost use Rattle.table.specs.Lent.{oldColumns, newColumns};
 ghost use Rattle.table.specs.Says.{countedSays};
 ghost use Rattle.refine.specs.Refine.{refined};
+ghost use Rattle.refine.specs.inside.Verdicts.{Settles};
 use crate::Judged;
+use crate::Verdict;
 use crate::judging::judge;
-use crate::placing::place_entries;
+use crate::placing::place;
 use numbering::number_request;
 use request::RequestRead;
 use rules::ENTRY_CAPACITY;
@@ -17,55 +19,49 @@ use table::Checked;
 use table::Counted;
 use table::check_columns;
 
-// A request to a sound table. The work columns take its entries: ids, quotas, and the quotas before each in L and in R.
-fn explode(
-    id: &mut [u32],
-    l: &mut [u32],
-    r: &mut [u32],
-    q: &mut [u32],
+// 10 to 13, the request, and 20 to 24, without a write to the table. The work columns take the request's entries: ids, quotas, and the
+// quotas before each in L and in R.
+fn judge_request(
+    id: &[u32],
+    l: &[u32],
+    r: &[u32],
+    q: &[u32],
     count: usize,
     request: &[u8],
     ids: &mut [u32; ENTRY_CAPACITY],
     quotas: &mut [u32; ENTRY_CAPACITY],
     before_l: &mut [u32; ENTRY_CAPACITY],
     before_r: &mut [u32; ENTRY_CAPACITY],
-) -> Counted
-    requires { ⌜ checked (lentColumns id l r q) count ≡ answer (rows (lentColumns id l r q) count) ⌝ }
-    ensures { λ t. ⌜ countedSays t ≡ counted (refined (oldColumns id l r q) count (old request)) ⌝ }
-    ensures { λ t. ⌜ newColumns id l r q ≡ afterwards (refined (oldColumns id l r q) count (old request)) (oldColumns id l r q) ⌝ }
+) -> Verdict
+    requires { ⌜ (length (now ids) ≡ entryCapacity) × (length (now quotas) ≡ entryCapacity) ⌝ }
+    requires { ⌜ (length (now «before_l») ≡ entryCapacity) × (length (now «before_r») ≡ entryCapacity) ⌝ }
+    ensures { λ t. ⌜ Settles (oldColumns id l r q) count (old request) (new ids) (new quotas) (new «before_l») (new «before_r») t ⌝ }
 {
-    match number_request(
-        request,
-        &mut *ids,
-        &mut *quotas,
-        &mut *before_l,
-        &mut *before_r,
-    ) {
-        RequestRead::Refused(why) => Counted::Refused(why),
-        RequestRead::Request {
-            exploded,
-            upright: _,
-            entries,
-            quota,
-        } => match judge(&*id, &*q, count, exploded, &*ids, entries, quota) {
-            Judged::Refused(why) => Counted::Refused(why),
-            Judged::Row(own) => {
-                place_entries(
-                    id,
-                    l,
-                    r,
-                    q,
-                    own,
-                    count,
+    match check_columns(id, l, r, q, count) {
+        Checked::Refused(why) => Verdict::Refused(why),
+        Checked::Sound => match number_request(
+            request,
+            &mut *ids,
+            &mut *quotas,
+            &mut *before_l,
+            &mut *before_r,
+        ) {
+            RequestRead::Refused(why) => Verdict::Refused(why),
+            RequestRead::Request {
+                exploded,
+                upright: _,
+                entries,
+                quota,
+            } => match judge(id, q, count, exploded, &*ids, entries, quota) {
+                Judged::Refused(why) => Verdict::Refused(why),
+                Judged::Row(own) => Verdict::Accepted {
                     exploded,
-                    &*ids,
-                    &*quotas,
-                    &*before_l,
-                    &*before_r,
+                    own,
+                    old_l: l[own],
+                    old_r: r[own],
                     entries,
-                );
-                Counted::Count(count + entries - 1)
-            }
+                },
+            },
         },
     }
 }
@@ -83,25 +79,53 @@ pub fn refine(
     ensures { λ t. ⌜ countedSays t ≡ counted (refined (oldColumns id l r q) count (old request)) ⌝ }
     ensures { λ t. ⌜ newColumns id l r q ≡ afterwards (refined (oldColumns id l r q) count (old request)) (oldColumns id l r q) ⌝ }
 {
-    match check_columns(&*id, &*l, &*r, &*q, count) {
-        Checked::Refused(why) => Counted::Refused(why),
-        Checked::Sound => {
-            let mut ids = [0; ENTRY_CAPACITY];
-            let mut quotas = [0; ENTRY_CAPACITY];
-            let mut before_l = [0; ENTRY_CAPACITY];
-            let mut before_r = [0; ENTRY_CAPACITY];
-            explode(
-                id,
-                l,
-                r,
-                q,
+    let mut ids = [0; ENTRY_CAPACITY];
+    let mut quotas = [0; ENTRY_CAPACITY];
+    let mut before_l = [0; ENTRY_CAPACITY];
+    let mut before_r = [0; ENTRY_CAPACITY];
+    match judge_request(
+        &*id,
+        &*l,
+        &*r,
+        &*q,
+        count,
+        request,
+        &mut ids,
+        &mut quotas,
+        &mut before_l,
+        &mut before_r,
+    ) {
+        Verdict::Refused(why) => Counted::Refused(why),
+        Verdict::Accepted {
+            exploded,
+            own,
+            old_l,
+            old_r,
+            entries,
+        } => {
+            place(&mut *id, own, count, exploded, 0, &ids, &ids, entries);
+            place(
+                &mut *l,
+                own,
                 count,
-                request,
-                &mut ids,
-                &mut quotas,
-                &mut before_l,
-                &mut before_r,
-            )
+                exploded,
+                old_l,
+                &ids,
+                &before_l,
+                entries,
+            );
+            place(
+                &mut *r,
+                own,
+                count,
+                exploded,
+                old_r,
+                &ids,
+                &before_r,
+                entries,
+            );
+            place(&mut *q, own, count, exploded, 0, &ids, &quotas, entries);
+            Counted::Count(count + entries - 1)
         }
     }
 }

@@ -22,7 +22,7 @@ value-fits c =
     let s = c .before .before in
     let i = c .before .loop .i in
     let e = getD-take (s .args .entries) (now (s .args .values)) i 0 (c .loop-test .taken) in
-    let m = length-take-le (s .args .entries) (now (s .args .values)) (s .pre .0 .1) in
+    let m = length-take-le (s .args .entries) (now (s .args .values)) (s .pre .0 .2) in
     omega (arith, s .pre .1 .1 i (omega (arith, c .loop-test .taken)))
 
 pub place-spec : {M : Type 1} → statement M
@@ -31,20 +31,20 @@ place-spec =
     (tie.spec
     Inv-loop
     μ-loop
-    (λ c. let p = c .pre in begins (p .0 .0) (p .0 .1) (p .1 .0))
+    (λ c. let p = c .pre in begins (p .0 .1) (p .0 .2) (p .1 .0))
     (λ c. omega arith)
     (λ c. omega arith)
     (λ c. omega (arith, value-fits (c .before)))
     (λ c. omega arith)
     (λ c. omega arith)
     (λ c. let l = c .before .before .before .before in let p = l .before .pre .0 in omega
-    (arith, own-fits (p .0) (p .1) (l .loop .inv) (c .before .before .before .loop-test .taken), l .loop .inv .same, l .before .good))
-    (λ c. let l = c .before .before .before .before in let p = l .before .pre .0 in own-fits (p .0) (p .1) (l .loop .inv) (c .before .before .before .loop-test .taken))
+    (arith, own-fits (p .1) (p .2) (l .loop .inv) (c .before .before .before .loop-test .taken), l .loop .inv .same, l .before .good))
+    (λ c. let l = c .before .before .before .before in let p = l .before .pre .0 in own-fits (p .1) (p .2) (l .loop .inv) (c .before .before .before .loop-test .taken))
     (λ c. let l = c .before .before .before .before in let p = l .before .pre .0 in omega
-    (arith, row-fits (p .0) (p .1) (l .loop .inv) (c .before .before .before .loop-test .taken) (c .if1 .left), l .loop .inv .same, l .before .good))
-    (λ c. let l = c .before .before .before .before in let p = l .before .pre .0 in row-fits (p .0) (p .1) (l .loop .inv) (c .before .before .before .loop-test .taken) (c .if1 .left))
+    (arith, row-fits (p .1) (p .2) (l .loop .inv) (c .before .before .before .loop-test .taken) (c .if1 .left), l .loop .inv .same, l .before .good))
+    (λ c. let l = c .before .before .before .before in let p = l .before .pre .0 in row-fits (p .1) (p .2) (l .loop .inv) (c .before .before .before .loop-test .taken) (c .if1 .left))
     (λ c. let l = c .before .before .before .before in let p = l .before .pre .0 in omega
-    (arith, row-fits (p .0) (p .1) (l .loop .inv) (c .before .before .before .loop-test .taken) (c .if1 .left), l .loop .inv .same, l .before .good))
+    (arith, row-fits (p .1) (p .2) (l .loop .inv) (c .before .before .before .loop-test .taken) (c .if1 .left), l .loop .inv .same, l .before .good))
     (λ c. omega arith)
     (λ c. omega arith)
     (λ c.
@@ -52,8 +52,8 @@ place-spec =
     let p = l .before .pre .0 in
     let h = c .before .before .before .loop-test .taken in
     ⊎-elim
-    (λ w. rw (w .1, w .2) (at-own (p .0) (p .1) (l .loop .inv) h (w .0 .taken)))
-    (λ w. rw (w .1, w .2) (at-row (p .0) (p .1) (l .loop .inv) h (w .0 .left)))
+    (λ w. rw (w .1, w .2) (at-own (p .1) (p .2) (l .loop .inv) h (w .0 .taken)))
+    (λ w. rw (w .1, w .2) (at-row (p .1) (p .2) (l .loop .inv) h (w .0 .left)))
     (c .if1 .came))
     (λ c. c .before .loop .inv .same)
-    (λ c. done (c .before .before .pre .0 .0) (c .before .before .pre .0 .1) (c .before .loop .inv) (c .loop-test .left)))
+    (λ c. done (c .before .before .pre .0 .1) (c .before .before .pre .0 .2) (c .before .loop .inv) (c .loop-test .left)))
