@@ -1,5 +1,7 @@
 -- What `grow` prints (document 01): one space between fields, a line feed after every line.
 use Prim.Native.Nat.{ℕ}
+use Prim.Native.Char.{code}
+use Prim.Native.String.{String, [] as []ᵀ, _∷_ as _∷ᵀ_}
 use mathlib.Core.Bool.{Bool, cond, _||_}
 use mathlib.Core.List.{List, [], _∷_, _++_, flatMap}
 use lib.ListN.{length}
@@ -9,18 +11,22 @@ use Rattle.text.specs.Decimal.{decimal}
 use Rattle.table.specs.Columns.{Row, Columns, rows}
 use Rattle.table.specs.Check.{lengthsBad, countBad}
 
+-- the bytes of a text's characters
+abbrev pub letters : String → List ℕ
+letters []ᵀ = []
+letters (c ∷ᵀ s) = code c ∷ letters s
+
 -- a number, and the byte after it: 32, a space, or 10, a line feed
 unfoldable pub fieldText : ℕ → ℕ → List ℕ
 fieldText n last = decimal n ++ (last ∷ [])
 
 -- `ok` and the count, or `no` and the refusal
 unfoldable pub lineText : Answer ℕ → List ℕ
-lineText (answer n) = (111 ∷ 107 ∷ 32 ∷ []) ++ fieldText n 10
-lineText (refused n) = (110 ∷ 111 ∷ 32 ∷ []) ++ fieldText n 10
+lineText (answer n) = letters "ok " ++ fieldText n 10
+lineText (refused n) = letters "no " ++ fieldText n 10
 
--- `group l r quota`
 unfoldable pub headingText : List ℕ
-headingText = 103 ∷ 114 ∷ 111 ∷ 117 ∷ 112 ∷ 32 ∷ 108 ∷ 32 ∷ 114 ∷ 32 ∷ 113 ∷ 117 ∷ 111 ∷ 116 ∷ 97 ∷ 10 ∷ []
+headingText = letters "group l r quota\n"
 
 -- a row as id, l, r, quota
 unfoldable pub rowText : Row → List ℕ

@@ -1,7 +1,6 @@
 // The line for a request.
 ghost use mathlib.Core.Path.{_≡_};
 ghost use mathlib.Core.List.{_++_};
-ghost use lib.ListN.{length};
 ghost use Rattle.rules.specs.Buffers.{written, after};
 ghost use Rattle.rules.specs.Lent.{old, new};
 ghost use Rattle.number.specs.Says.{writtenSays};
@@ -17,18 +16,18 @@ use text::write_bytes;
 
 const LINE_FEED: u8 = 10;
 
-// Writes a word of three bytes and a number on one line.
-fn write_word(buffer: &mut [u8], at: usize, word: &[u8], n: u32) -> Written
-    requires { ⌜ length (now word) ≡ 3 ⌝ }
+// Writes a word, which brings the space after it along, and a number on one line, from a position on: 30, and none of it, where the
+// buffer is too short.
+pub fn write_word(buffer: &mut [u8], at: usize, word: &[u8], n: u32) -> Written
     ensures { λ t. ⌜ writtenSays t ≡ written (old buffer) at (old word ++ fieldText n 10) ⌝ }
     ensures { λ t. ⌜ new buffer ≡ after (old buffer) at (old word ++ fieldText n 10) ⌝ }
 {
-    let whole = 3 + field_length(n);
+    let whole = word.len() + field_length(n);
     if too_short(buffer.len(), at, whole) {
         return Written::Refused(Refusal::BufferShort);
     }
     write_bytes(&mut *buffer, at, word);
-    write_field(&mut *buffer, at + 3, n, LINE_FEED);
+    write_field(&mut *buffer, at + word.len(), n, LINE_FEED);
     Written::Bytes(whole)
 }
 

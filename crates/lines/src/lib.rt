@@ -1,9 +1,10 @@
-// What `grow` prints, written into a lent buffer: a line for each request, and a table.
+// What the programs print, written into a lent buffer: a word and a number on a line, the line for a request, and a table.
 mod answers;
 mod fields;
 mod tables;
 
 pub use answers::write_line;
+pub use answers::write_word;
 use rules::Refusal;
 pub use tables::write_table;
 

@@ -1,13 +1,8 @@
 -- Printed lines as bytes.
 use Prim.Native.Nat.{ℕ}
-use Prim.Native.Char.{code}
-use Prim.Native.String.{String, [] as []ᵀ, _∷_ as _∷ᵀ_}
+use Prim.Native.String.{String}
 use mathlib.Core.List.{List, [], _∷_, _++_}
-
--- the bytes of a text's characters
-abbrev pub letters : String → List ℕ
-letters []ᵀ = []
-letters (c ∷ᵀ s) = code c ∷ letters s
+use Rattle.lines.specs.Lines.{letters}
 
 -- a line feed after every line
 abbrev pub lines : List String → List ℕ

@@ -16,20 +16,22 @@ use Rattle.lines.proofs.answers.write_word.Statement.{statement}
 use Rattle.lines.proofs.answers.write_word.Tie as tie
 
 -- how many bytes the line has
-counted : (s : tie.Start) → length (now (s .args .word) ++ fieldText (s .args .n) 10) ≡ 3 + length (fieldText (s .args .n) 10)
-counted s = length-append (now (s .args .word)) (fieldText (s .args .n) 10) ∙ ap (λ k. k + length (fieldText (s .args .n) 10)) (s .pre)
+counted : (s : tie.Start) → length (now (s .args .word) ++ fieldText (s .args .n) 10) ≡ length (now (s .args .word)) + length (fieldText (s .args .n) 10)
+counted s = length-append (now (s .args .word)) (fieldText (s .args .n) 10)
 
 -- there is room for it
-room : (e : tie.Else1) → let s : tie.Start = search in s .args .at + (3 + length (fieldText (s .args .n) 10)) ≤ length (now (s .args .buffer))
+room : (e : tie.Else1) → let s : tie.Start = search in s .args .at + (length (now (s .args .word)) + length (fieldText (s .args .n) 10)) ≤ length (now (s .args .buffer))
 room e =
     let s : tie.Start = search in
-    let r = ltb-false (length (now (s .args .buffer))) (s .args .at + (3 + e .before .before .field-length .result)) (sym (e .before .too-short .ensures) ∙ e .if1 .left) in
+    let f : tie.After-field-length = search in
+    let r = ltb-false (length (now (s .args .buffer))) (s .args .at + (length (now (s .args .word)) + f .field-length .result)) (sym (e .before .too-short .ensures) ∙ e .if1 .left) in
     omega (arith, field-count (s .args .n) 10)
 
 short : tie.Need-returns
 short c =
     let s : tie.Start = search in
-    let r = ltb-true (length (now (s .args .buffer))) (s .args .at + (3 + c .before .before .field-length .result)) (sym (c .before .too-short .ensures) ∙ c .if1 .taken) in
+    let f : tie.After-field-length = search in
+    let r = ltb-true (length (now (s .args .buffer))) (s .args .at + (length (now (s .args .word)) + f .field-length .result)) (sym (c .before .too-short .ensures) ∙ c .if1 .taken) in
     kept (now (s .args .buffer)) (s .args .at) (now (s .args .word) ++ fieldText (s .args .n) 10) (omega (arith, counted s, field-count (s .args .n) 10))
 
 returns-2 : tie.Need-returns-2
