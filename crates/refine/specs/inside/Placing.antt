@@ -1,5 +1,4 @@
 -- Writing the entries of an accepted request into the columns: the exploded id's row, and the next rows for the others.
-use mathlib.Core.Path.{_≡_}
 use mathlib.Core.Bool.{cond}
 use mathlib.Core.List.{List, [], _∷_}
 use Prim.Native.Nat.{ℕ, suc, _+_, _≤_, _<_}

@@ -12,7 +12,7 @@ use Rattle.table.specs.Check.{checked}
 use Rattle.table.specs.Columns.{Columns, columns, rows}
 use Rattle.table.proofs.Passing.{sound, unsound}
 use Rattle.refine.specs.Refine.{refined}
-use Rattle.refine.specs.inside.Judging.{judgedIn, judgedSays}
+use Rattle.refine.specs.inside.Judging.{judgedSays}
 use Rattle.refine.specs.inside.Verdicts.{Settles}
 use Rattle.refine.specs.declared.Verdict.the-variants as verdict
 use Rattle.refine.proofs.Accepting.{passed}
