@@ -19,6 +19,7 @@ use Rattle.ledger.specs.Ledger.{freshLedger, acceptedBy, isOther, staysBelow, b
 use Rattle.ledger.specs.Calls.{engineReply, engineAfter, engineReplies, engineEnd, engineStart, ledgerReply, ledgerAfter, ledgerReplies, ledgerEnd}
 use Rattle.text.specs.Decimal.{digits, decimal}
 use Rattle.log.specs.Log.{pairOf, partAt, partThen, requestsFrom, requestsAt}
+use Rattle.decision_line.specs.DecisionText.{decisionText}
 use Rattle.lines.specs.Lines.{fieldText, lineText, headingText, rowText, tableText}
 use Rattle.replay.specs.Run.{answersTo, tableEnd}
 use Rattle.replay.specs.Replay.{endText, replayFrom, replayOf, textOf}
@@ -32,6 +33,6 @@ unfolding cases besideRequest uprightRequest invertedRequest first9 second9 thir
     yetToBegin those someOpen greatestLast leastFirst tried dated questionBad decided positiveAt entryAt treesBy treeBy notFull treesAt directionOf requestOf someEntry
     accepted refineRows explodedRows refined engineReply engineAfter engineReplies engineEnd engineStart freshLedger acceptedBy isOther staysBelow
     belowEntries aboveEntries itself byTrees orderAfter replace explodedLedger ledgerRefined ledgerOrder ledgerReply ledgerAfter ledgerReplies ledgerEnd
-    digits decimal fieldText lineText headingText rowText tableText flatMap pairOf partAt partThen requestsFrom requestsAt answersTo
+    digits decimal fieldText lineText headingText rowText tableText decisionText flatMap pairOf partAt partThen requestsFrom requestsAt answersTo
     tableEnd endText replayFrom replayOf textOf
 cases-right = refl

@@ -12,6 +12,7 @@ use Rattle.fresh.specs.Fresh.{freshRows}
 use Rattle.grant.specs.Grant.{Grant, grantsBytes}
 use Rattle.decide.specs.Dating.{Decision}
 use Rattle.decide.specs.Decision.{decided}
+use Rattle.decision_line.specs.DecisionText.{decisionText}
 use Rattle.ledger.specs.Ledger.{Ledger, freshLedger, afreshL, afreshR}
 use Rattle.ledger.specs.Calls.{Call, Reply, engineStart, engineReplies, engineEnd, ledgerReplies, ledgerEnd}
 use Rattle.table.specs.Columns.{Table, rowsIn}
@@ -29,6 +30,8 @@ pub data Case : Type 0 where
   logged : List ℕ → List String → List Row → Case
   -- a feature, a pass (l, r), a day and grants, and what is decided
   asked : (feature l r day : ℕ) → List Grant → Answer Decision → Case
+  -- a decision or a refusal, and the line that is printed of it
+  answered : Answer Decision → String → Case
 
 -- what the definitions say, and what the document says
 pub data Outcome : Type 0 where
@@ -81,6 +84,7 @@ computed (grown id quota calls said after) =
     (afresh (ledgerEnd (ledger id quota) calls) after)
 computed (logged numbers text after) = printed (growText blank (stream numbers)) (rowsAfter (replayOf blank (stream numbers)))
 computed (asked feature l r day gs said) = decision (decided feature l r day (grantsBytes gs))
+computed (answered said text) = printed (decisionText said) []
 
 abbrev pub stated : Case → Outcome
 stated (stored value bytes) = codec bytes (found value (length bytes))
@@ -88,3 +92,4 @@ stated (made id quota after) = table (answer 1) (after ∷ [])
 stated (grown id quota calls said after) = run said after said after
 stated (logged numbers text after) = printed (lines text) after
 stated (asked feature l r day gs said) = decision said
+stated (answered said text) = printed (lines (text ∷ [])) []

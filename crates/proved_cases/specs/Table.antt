@@ -1,4 +1,4 @@
--- The cases that document 01 marks P, in its order.
+-- The cases that document 01 marks P, in its order; after its decisions, the lines that `may` prints of them.
 use Prim.Native.Nat.{ℕ}
 use Prim.Native.String.{String}
 use mathlib.Core.List.{List, [], _∷_, _++_}
@@ -8,7 +8,7 @@ use Rattle.order.specs.Order.{Order, same, first, second, incomparable}
 use Rattle.grant.specs.Grant.{grant}
 use Rattle.decide.specs.Dating.{onOpen, onUntil, ended, ahead, never}
 use Rattle.ledger.specs.Calls.{Call, refine, order, Reply, refineSays, orderSays}
-use Rattle.proved_cases.specs.Cases.{Case, stored, made, grown, logged, asked, row, stream}
+use Rattle.proved_cases.specs.Cases.{Case, stored, made, grown, logged, asked, answered, row, stream}
 
 -- a request by its numbers
 abbrev pub request : List ℕ → Call
@@ -140,6 +140,12 @@ cases =
     ∷ asked 7 1 1 21 (grant 7 2 2 10 20 ∷ []) (answer (ended 20))
     ∷ asked 7 1 1 10 (grant 7 2 2 10 0 ∷ []) (answer onOpen)
     ∷ asked 7 2 1 10 (grant 7 1 2 10 20 ∷ []) (answer never)
+    ∷ answered (answer (ahead 10)) "ahead 10"
+    ∷ answered (answer (onUntil 20)) "on 20"
+    ∷ answered (answer (ended 20)) "ended 20"
+    ∷ answered (answer onOpen) "on open"
+    ∷ answered (answer never) "never"
+    ∷ answered (refused 15) "no 15"
     ∷ logged log9 lines9 rows9
     ∷ grown 1 100 calls9 replies9 rows9
     ∷ []

@@ -145,6 +145,18 @@ pub fn question(bytes: &[u8]) {
     decided(decide::question(bytes));
 }
 
+// Writes the line that `may` prints of a question into so many bytes.
+pub fn may(question: &[u8], space: u64) {
+    let mut buffer = show::unwritten();
+    let n = room(space);
+    let end = written(decision_line::write_decision(
+        &mut buffer[0..n],
+        0,
+        decide::question(question),
+    ));
+    show::whole(&buffer, end);
+}
+
 pub fn check(id: &[u32], l: &[u32], r: &[u32], q: &[u32], count: usize) {
     match table::check_columns(id, l, r, q, count) {
         Checked::Sound => answer(show::SOUND, 0),

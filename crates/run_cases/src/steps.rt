@@ -113,6 +113,7 @@ fn plain(command: u8, line: &[u8], bytes: &[u8]) {
         b'p' => calls::next_child(line),
         b'd' => calls::decide(line, bytes),
         b'q' => calls::question(bytes),
+        b'm' => calls::may(bytes, given(line, 0)),
         _ => {}
     }
 }
