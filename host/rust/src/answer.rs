@@ -78,7 +78,7 @@ mod tests {
     #[test]
     fn one_name_for_each_kind() {
         let header = include_str!("../../../include/zintukor.h");
-        let engine = include_str!("../../../crates/zintukor/src/codes.rt");
+        let engine = include_str!("../../../crates/codes/src/lib.rt");
         for (name, number) in [
             ("REFUSED", kind::REFUSED),
             ("COUNT", kind::COUNT),
