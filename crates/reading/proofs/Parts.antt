@@ -12,7 +12,9 @@ use Rattle.number.specs.Number.{found, numberAt}
 use Rattle.request.specs.Forest.{Forest}
 use Rattle.request.specs.Numbering.{whole, size}
 use Rattle.request.specs.Reading.{positiveAt, entryAt, TreesRead, treesAt, directionOf, requestOf}
-use Rattle.reading.specs.inside.Work.{Work, walkEnd, Walked, isUpright, summary, RequestIn}
+use Rattle.reading.specs.Says.{isUpright, summary}
+use Rattle.reading.specs.Work.{Work}
+use Rattle.reading.specs.inside.Work.{walkEnd, Walked, RequestIn}
 use Rattle.reading.proofs.Walking.{walk-found, used-size}
 
 -- ## A number that may not be 0

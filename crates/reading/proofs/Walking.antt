@@ -14,7 +14,8 @@ use Rattle.request.specs.Forest.{Forest, none, tree}
 use Rattle.request.specs.Numbering.{whole, size}
 use Rattle.request.specs.Legal.{LegalTrees}
 use Rattle.request.specs.Reading.{entryAt, TreesRead, treeAt, treesAt}
-use Rattle.reading.specs.inside.Work.{Work, work, enter, filled, WalkEnd, walkEnd, Walked}
+use Rattle.reading.specs.Work.{Work, work, enter, filled}
+use Rattle.reading.specs.inside.Work.{WalkEnd, walkEnd, Walked}
 use Rattle.request.proofs.ReadLaws.{read-trees}
 use Rattle.request.proofs.TreeSteps.{beside, tree-below, trees-none, trees-more}
 use Rattle.request.proofs.Numbering.{size-length}

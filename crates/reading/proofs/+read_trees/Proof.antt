@@ -9,7 +9,7 @@ use Prim.Native.Nat.{ℕ, _<_}
 use borrow.Fn.Kinds.{In}
 use borrow.Fn.PlainCycle.{Measures, is, falls, and}
 use Rattle.reading.specs.inside.Says.{entrySays, walkSays}
-use Rattle.reading.specs.inside.Work.{work}
+use Rattle.reading.specs.Work.{work}
 use Rattle.reading.proofs.Walking.{Reading, Inner, begin, refuse, ended, again, sum-bound, inner-found, walk-refused}
 use Rattle.request.proofs.TreeSteps.{tree-full, tree-deep, tree-cut, below-refused}
 use Rattle.reading.proofs.read_trees.Reads as read-trees
