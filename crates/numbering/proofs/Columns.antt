@@ -13,7 +13,7 @@ use Rattle.rules.specs.Limits.{greatest}
 use Rattle.request.specs.Entries.{Entry, quota}
 use Rattle.request.specs.Forest.{Forest, none, tree, Direction, preL}
 use Rattle.request.specs.Numbering.{whole, size}
-use Rattle.request.specs.inside.Work.{Work, enter, filled, directionBy}
+use Rattle.reading.specs.inside.Work.{Work, enter, filled, directionBy}
 use Rattle.numbering.specs.inside.Boxed.{numbersOf}
 use Rattle.request.proofs.Numbering.{size-length}
 

@@ -5,9 +5,9 @@ use Prim.Native.Nat.{ℕ}
 use native.Mathlib.Omega.{arith}
 use lib.Seq.{sets}
 use denote.Ref.{now}
-use Rattle.request.specs.inside.Says.{requestSays}
-use Rattle.request.specs.inside.Work.{Work, work}
-use Rattle.request.proofs.Work.{Received, received, not-received}
+use Rattle.reading.specs.inside.Says.{requestSays}
+use Rattle.reading.specs.inside.Work.{Work, work}
+use Rattle.reading.proofs.Work.{Received, received, not-received}
 use Rattle.numbering.proofs.Columns.{filled-ids, filled-quotas}
 use Rattle.numbering.proofs.Nameless.{held, lefts-back, rights-back}
 use borrow.Author.Needs.{needs}

@@ -1,18 +1,29 @@
-// A request's bytes, drawn into the work columns.
+// Reading a request: its bytes, drawn into work columns that hold its entries in their order.
 ghost use mathlib.Core.Path.{_≡_};
 ghost use Prim.Native.Nat.{_≤_};
 ghost use Rattle.rules.specs.Limits.{mostEntries};
 ghost use Rattle.number.specs.Says.{drawnSays};
 ghost use Rattle.request.specs.Reading.{positiveAt, entryAt, treesAt, requestOf};
-ghost use Rattle.request.specs.inside.Says.{entrySays, walkSays, requestSays};
-ghost use Rattle.request.specs.inside.Work.{oldWork, newWork, Walked, walkEnd, RequestIn, summary};
+ghost use Rattle.reading.specs.inside.Says.{entrySays, walkSays, requestSays};
+ghost use Rattle.reading.specs.inside.Work.{oldWork, newWork, Walked, walkEnd, RequestIn, summary};
 ghost use Rattle.rules.specs.Lent.{old};
-use crate::RequestRead;
 use number::Drawn;
 use rules::ENTRY_CAPACITY;
 use rules::GREATEST_DEPTH;
 use rules::MOST_ENTRIES;
 use rules::Refusal;
+
+// A request as it is read; its entries stand in the work columns.
+pub enum RequestRead {
+    // Exploded id, whether the direction is upright, number of entries, and all their quota.
+    Request {
+        exploded: u32,
+        upright: bool,
+        entries: usize,
+        quota: u64,
+    },
+    Refused(Refusal),
+}
 
 // An entry as it is read.
 enum EntryDrawn {

@@ -1,14 +1,14 @@
 -- What the answers of the code that reads a request say.
 use Rattle.rules.specs.Answers.{Answer, answer, refused}
 use Rattle.rules.specs.Refusals.{refusalNumber}
 use Rattle.request.specs.Reading.{EntryRead}
-use Rattle.request.specs.inside.Work.{WalkEnd, Summary}
-use Rattle.request.specs.declared.reading.EntryDrawn.{EntryDrawn}
-use Rattle.request.specs.declared.reading.EntryDrawn.the-variants as entry
-use Rattle.request.specs.declared.RequestRead.{RequestRead}
-use Rattle.request.specs.declared.RequestRead.the-variants as read
-use Rattle.request.specs.declared.reading.Walk.{Walk}
-use Rattle.request.specs.declared.reading.Walk.the-variants as walk
+use Rattle.reading.specs.inside.Work.{WalkEnd, Summary}
+use Rattle.reading.specs.declared.EntryDrawn.{EntryDrawn}
+use Rattle.reading.specs.declared.EntryDrawn.the-variants as entry
+use Rattle.reading.specs.declared.RequestRead.{RequestRead}
+use Rattle.reading.specs.declared.RequestRead.the-variants as read
+use Rattle.reading.specs.declared.Walk.{Walk}
+use Rattle.reading.specs.declared.Walk.the-variants as walk
 
 abbrev pub entrySays : EntryDrawn → Answer EntryRead
 entrySays (entry.Entry id quota children next) = answer (record { id = id; quota = quota; children = children; next = next })

@@ -11,14 +11,14 @@ use Rattle.rules.specs.Buffers.{Bytes}
 use Rattle.rules.specs.Capacities.{entryCapacity}
 use Rattle.rules.specs.Limits.{mostEntries}
 use Rattle.rules.proofs.Answers.{same-answer, never-refused, then-refused}
 use Rattle.request.specs.Forest.{Forest, none, tree, Direction, upright, inverted}
 use Rattle.request.specs.Numbering.{whole, size}
 use Rattle.request.specs.Request.{Request}
 use Rattle.request.specs.Legal.{LegalTrees}
 use Rattle.request.specs.Reading.{requestOf}
-use Rattle.request.specs.inside.Work.{Work, EntryIn, TreesIn, enter, filled, directionBy, isUpright, Summary, summary, RequestIn}
+use Rattle.reading.specs.inside.Work.{Work, EntryIn, TreesIn, enter, filled, directionBy, isUpright, Summary, summary, RequestIn}
 use Rattle.request.proofs.Numbering.{size-length}
 use Rattle.request.proofs.ReadLaws.{request-read, request-legal}
 
 -- every work column has n places
 pub record Places (n : ℕ) (w : Work) : Type 0 where
