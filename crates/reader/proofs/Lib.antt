@@ -1,2 +1,4 @@
-pub mod Held
 pub mod Calls
+pub mod Drawing
+pub mod Held
+pub mod ThreeDraws

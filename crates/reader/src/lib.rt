@@ -2,7 +2,7 @@
 ghost use mathlib.Core.Path.{_≡_};
 ghost use Rattle.number.specs.Number.{numberAt};
 ghost use Rattle.number.specs.Says.{drawnSays};
-ghost use Rattle.reader.specs.Three.{nextOf, threeAt, threeSays};
+ghost use Rattle.reader.specs.Drawing.{nextOf, threeAt, threeSays};
 ghost use Rattle.rules.specs.Lent.{old};
 use number::Drawn;
 
@@ -78,9 +78,15 @@ pub fn three_at(bytes: &[u8], at: usize) -> Three
     threefold(first, second, third)
 }
 
-// The number at a place of some bytes, drawn by a reader.
-pub fn draw_at(bytes: &[u8], at: usize) -> Drawn
-    ensures { λ d. ⌜ drawnSays d ≡ numberAt (old bytes) at ⌝ }
+// The same, for a head. Each of the two has one caller, and is compiled into it: one function for both would be a call for each entry.
+pub fn head_at(bytes: &[u8], at: usize) -> Three
+    ensures { λ t. ⌜ threeSays t ≡ threeAt (old bytes) at ⌝ }
 {
-    Reader::new(bytes, at).draw()
+    let reader = Reader::new(bytes, at);
+    let first = reader.draw();
+    let reader = reader.after(next_of(first));
+    let second = reader.draw();
+    let reader = reader.after(next_of(second));
+    let third = reader.draw();
+    threefold(first, second, third)
 }
