@@ -8,10 +8,11 @@ use lib.ListN.{length}
 use borrow.Author.Tests.{lt-ltb, le-ltb, eq-eqb, ne-eqb}
 use Rattle.rules.specs.Answers.{Answer, answer, refused}
 use Rattle.rules.specs.Limits.{greatestDepth}
-use Rattle.number.specs.Number.{found, numberAt}
+use Rattle.rules.proofs.Answers.{then-answer, same-answer, peel}
+use Rattle.number.specs.Number.{Number, found, numberAt}
 use Rattle.request.specs.Forest.{Forest}
 use Rattle.request.specs.Numbering.{whole, size}
-use Rattle.request.specs.Reading.{positiveAt, entryAt, TreesRead, treesAt, directionOf, requestOf}
+use Rattle.request.specs.Reading.{positiveOf, positiveAt, entryAt, TreesRead, treesAt, directionOf, requestOf}
 use Rattle.reading.specs.Says.{isUpright, summary}
 use Rattle.reading.specs.Work.{Work}
 use Rattle.reading.specs.inside.Work.{walkEnd, Walked, RequestIn}
@@ -19,18 +20,24 @@ use Rattle.reading.proofs.Walking.{walk-found, used-size}
 
 -- ## A number that may not be 0
 
+module _ {drawn : Answer Number} {value next : ℕ} (h : found value next ≡ drawn) where
+  pub positive-zero : value ≡ 0 → refused 4 ≡ positiveOf drawn
+  positive-zero z = rw (sym h, eq-eqb value 0 z)
+
+  pub positive-found : (value ≡ 0 → ⊥) → found value next ≡ positiveOf drawn
+  positive-found z = rw (sym h, ne-eqb value 0 z)
+
 module _ (bytes : List ℕ) (at : ℕ) where
-  pub positive-refused : {n : ℕ} → refused n ≡ numberAt bytes at → refused n ≡ positiveAt bytes at
+  pub positive-at : {drawn : Answer Number} → drawn ≡ numberAt bytes at → positiveOf drawn ≡ positiveAt bytes at
   unfolding positiveAt
-  positive-refused h = rw (sym h)
+  positive-at h = ap positiveOf h
 
-  pub positive-zero : {value next : ℕ} → found value next ≡ numberAt bytes at → value ≡ 0 → refused 4 ≡ positiveAt bytes at
+  -- it is the number that stands there
+  pub positive-number : {value next : ℕ} → found value next ≡ positiveAt bytes at → found value next ≡ numberAt bytes at
   unfolding positiveAt
-  positive-zero {value} h z = rw (sym h, eq-eqb value 0 z)
-
-  pub positive-found : {value next : ℕ} → found value next ≡ numberAt bytes at → (value ≡ 0 → ⊥) → found value next ≡ positiveAt bytes at
-  unfolding positiveAt
-  positive-found {value} h z = rw (sym h, ne-eqb value 0 z)
+  positive-number h =
+      let a = then-answer (numberAt bytes at) _ (sym h) in
+      sym (a .1 ∙ ap answer (same-answer (peel (eqb (a .0 .value) 0) _ _ (a .2) .1)))
 
 -- ## An entry
 

@@ -3,7 +3,7 @@ ghost use mathlib.Core.Path.{_≡_};
 ghost use Prim.Native.Nat.{_≤_};
 ghost use Rattle.rules.specs.Limits.{mostEntries};
 ghost use Rattle.number.specs.Says.{drawnSays};
-ghost use Rattle.request.specs.Reading.{positiveAt, entryAt, treesAt, requestOf};
+ghost use Rattle.request.specs.Reading.{positiveOf, entryAt, treesAt, requestOf};
 ghost use Rattle.reading.specs.Says.{requestSays, summary};
 ghost use Rattle.reading.specs.Work.{oldWork, newWork, workAfter};
 ghost use Rattle.reading.specs.inside.Says.{entrySays, walkSays};
@@ -42,10 +42,10 @@ enum Walk {
 }
 
 // A number that may not be 0.
-fn positive_at(bytes: &[u8], at: usize) -> Drawn
-    ensures { λ t. ⌜ drawnSays t ≡ positiveAt (old bytes) at ⌝ }
+fn positive(drawn: Drawn) -> Drawn
+    ensures { λ t. ⌜ drawnSays t ≡ positiveOf (drawnSays drawn) ⌝ }
 {
-    match reader::draw_at(bytes, at) {
+    match drawn {
         Drawn::Refused(why) => Drawn::Refused(why),
         Drawn::Number(value, next) => {
             if value == 0 {
@@ -56,15 +56,19 @@ fn positive_at(bytes: &[u8], at: usize) -> Drawn
     }
 }
 
-// The entry at a position.
+// The entry at a position: its three numbers are drawn, and then judged from left to right.
 fn entry_at(bytes: &[u8], at: usize) -> EntryDrawn
     ensures { λ t. ⌜ entrySays t ≡ entryAt (old bytes) at ⌝ }
 {
-    match positive_at(bytes, at) {
+    let three = reader::three_at(bytes, at);
+    let first = three.first;
+    let second = three.second;
+    let third = three.third;
+    match positive(first) {
         Drawn::Refused(why) => EntryDrawn::Refused(why),
-        Drawn::Number(id, after_id) => match positive_at(bytes, after_id) {
+        Drawn::Number(id, _) => match positive(second) {
             Drawn::Refused(why) => EntryDrawn::Refused(why),
-            Drawn::Number(quota, after_quota) => match reader::draw_at(bytes, after_quota) {
+            Drawn::Number(quota, _) => match third {
                 Drawn::Refused(why) => EntryDrawn::Refused(why),
                 Drawn::Number(children, next) => EntryDrawn::Entry(id, quota, children, next),
             },
@@ -148,19 +152,23 @@ fn read_parts(
     ensures { λ t. ⌜ requestSays t ≡ summary (requestOf (old bytes)) ⌝ }
     ensures { λ t. ⌜ RequestIn (requestOf (old bytes)) (oldWork ids quotas ends sums) (newWork ids quotas ends sums) ⌝ }
 {
-    match positive_at(bytes, 0) {
+    let three = reader::head_at(bytes, 0);
+    let first = three.first;
+    let second = three.second;
+    let third = three.third;
+    match positive(first) {
         Drawn::Refused(why) => RequestRead::Refused(why),
-        Drawn::Number(exploded, after_exploded) => match reader::draw_at(bytes, after_exploded) {
+        Drawn::Number(exploded, _) => match second {
             Drawn::Refused(why) => RequestRead::Refused(why),
-            Drawn::Number(direction, after_direction) => {
+            Drawn::Number(direction, _) => {
                 if 1 < direction {
                     return RequestRead::Refused(Refusal::Direction);
                 }
-                match positive_at(bytes, after_direction) {
+                match positive(third) {
                     Drawn::Refused(why) => RequestRead::Refused(why),
-                    Drawn::Number(trees, first) => match read_trees(
+                    Drawn::Number(trees, after) => match read_trees(
                         bytes,
-                        first,
+                        after,
                         trees,
                         GREATEST_DEPTH,
                         0,
