@@ -11,8 +11,6 @@ ghost use Rattle.numbering.specs.Numbered.{Begins, EntriesIn, leftNumber
 ghost use Rattle.numbering.specs.inside.Boxed.{Held, forestIn, numbersOf};
 use crate::trees::number_trees;
 use boxes::Box;
-use boxes::LValue;
-use boxes::RValue;
 use request::RequestRead;
 use request::read_request;
 use rules::ENTRY_CAPACITY;
@@ -35,11 +33,7 @@ fn number_entries(
     ensures { λ _. ⌜ Begins r (numbersOf rights upright (forestIn (old quotas) (old ends) 0 entries)) ⌝ }
 {
     if quota <= GREATEST as u64 {
-        let plane = Box {
-            l: LValue(0),
-            r: RValue(0),
-            quota,
-        };
+        let plane = Box::new(0, 0, quota as u32);
         number_trees(
             quotas,
             ends,
