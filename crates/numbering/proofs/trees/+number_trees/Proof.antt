@@ -2,7 +2,7 @@
 -- is left to number makes the whole.
 use mathlib.Core.Path.{_≡_, refl, ap₂, _∙_}
 use mathlib.Core.List.{List, []}
-use Prim.Native.Nat.{ℕ, _+_, _-_, _<_}
+use Prim.Native.Nat.{ℕ, _+_, _-_, _≤_, _<_}
 use native.Mathlib.Omega.{arith}
 use lib.ListN.{length, getD}
 use borrow.Author.Needs.{needs}
@@ -57,7 +57,7 @@ Inv-loop quotas ends sums from to upright l₀ r₀ p₀ rest₀ l r p rest =
 abbrev μ-loop : lts.MeasureT-loop
 μ-loop quotas ends sums from to upright l₀ r₀ p₀ rest₀ l r p rest = to - p
 
--- the places: the start, a round of the loop, its child's box, the child's corner, the columns with the corner written, the children numbered
+-- the places: the start, a round of the loop, its child's box, the child's corner, the corner written to the columns, the children numbered
 abbrev Start : ℕ → Type 0
 Start t = lts.Start (claims t) (here-at t) number-trees.Post Inv-loop μ-loop
 
@@ -110,7 +110,7 @@ own c = getD (now (start (round (child c)) .args .quotas)) (round (child c) .bef
 
 dead-corner : (t : ℕ) (c : lts.After-enum-told2 (claims t) (here-at t) number-trees.Post Inv-loop μ-loop) → ⊥
 dead-corner t c =
-    let k : Child t = search in
+    let k : Child t = c .before .before .before in
     corner-there (first t (round k)) _ (child-at t k) (c .before .before .corner .ensures) (c .enum-told2 .given .1)
 
 place-at : (t : ℕ) (c : Corner t) → c .before .place .given .0 .0 ≡ cornerOf (start (round (child c)) .args .upright) (child c .before .child .given .0 .0) (own c)
@@ -132,16 +132,26 @@ l-written c = wrote c .write .last .1 .0
 abbrev r-written : {t : ℕ} → Written t → List ℕ
 r-written c = c .write2 .last .1 .0
 
--- the parts of them that are lent to the children
-lengths : (t : ℕ) (c : Written t) → let a = start (round (child (corner c))) .args in (length (l-written c) ≡ a .to - a .from) × (length (r-written c) ≡ a .to - a .from)
-lengths t c = let h = first t (round (child (corner c))) in (wrote c .write .kept .1 .0 ∙ h .l-length, c .write2 .kept .1 .0 ∙ h .r-length)
+-- where the tree stands among the entries
+bounds : (t : ℕ) (c : Child t)
+    → let a = start (round c) .args in
+    let p = round c .before .loop .p in
+    let end = getD (now (a .ends)) p 0 in (a .from ≤ p) × ((p < end) × (end ≤ a .to))
+bounds t c = let h = first t (round c) in (h .behind, (omega (arith, h .end-is), omega (arith, h .end-is, h .ends-at)))
+
+-- the parts of the columns that are lent to the children
+abbrev tree : {t : ℕ} → Written t → Child t
+tree c = child (corner c)
+
+lengths : (t : ℕ) (c : Written t) → let a = start (round (tree c)) .args in (length (l-written c) ≡ a .to - a .from) × (length (r-written c) ≡ a .to - a .from)
+lengths t c = let h = first t (round (tree c)) in (wrote c .write .kept .1 .0 ∙ h .l-length, c .write2 .kept .1 .0 ∙ h .r-length)
 
 pub +number-trees-spec : {M : Type 1} → statement M
 +number-trees-spec =
     close μ
     λ t.
     lts.spec (claims t) (here-at t) number-trees.Post Inv-loop μ-loop
-    (λ c. let s : Start t = search in begins (s .pre .1 .1))
+    (λ c. begins (c .before .before .before .before .before .pre .1 .1))
     (λ c. omega arith)
     (λ c. omega arith)
     (λ c. omega arith)
@@ -161,37 +171,35 @@ pub +number-trees-spec : {M : Type 1} → statement M
     (λ c. absurd (dead-corner t c))
     (λ c. absurd (dead-corner t c))
     (λ c. search needs)
-    (λ c. let k : Child t = search in let h = first t (round k) in let b = h .behind in omega arith)
-    (λ c. let k : Child t = search in let h = first t (round k) in let b = h .behind in let e = h .end-is in omega arith)
-    (λ c. let k : Child t = search in let h = first t (round k) in let b = h .behind in let a = h .ends-at in omega (arith, start (round k)))
+    (λ c. omega (arith, bounds t (child c)))
+    (λ c. omega (arith, bounds t (child c)))
+    (λ c. omega (arith, bounds t (child c), start (round (child c)) .fits))
     (λ c κs. tt)
     (λ c κs. tt)
-    (λ c. let k : Child t = search in let h = first t (round k) in let b = h .behind in let e = h .end-is in let a = h .ends-at in omega (arith, start (round k)))
-    (λ c. let k : Child t = search in let h = first t (round k) in let b = h .behind in let e = h .end-is in let a = h .ends-at in omega (arith, start (round k)))
-    (λ c. let k : Child t = search in let h = first t (round k) in let b = h .behind in let e = h .end-is in let a = h .ends-at in omega arith)
-    (λ c. let k : Child t = search in let h = first t (round k) in let b = h .behind in let e = h .end-is in let a = h .ends-at in omega arith)
-    (λ c. let w : Written t = search in let k : Child t = search in let h = first t (round k) in let b = h .behind in let e = h .end-is in let a = h .ends-at in omega (arith, lengths t w))
-    (λ c. let k : Child t = search in let h = first t (round k) in let b = h .behind in let e = h .end-is in let a = h .ends-at in omega (arith, start (round k)))
-    (λ c. let k : Child t = search in let h = first t (round k) in let b = h .behind in let e = h .end-is in let a = h .ends-at in omega arith)
-    (λ c. let k : Child t = search in let h = first t (round k) in let b = h .behind in let e = h .end-is in let a = h .ends-at in omega arith)
-    (λ c. let w : Written t = search in let k : Child t = search in let h = first t (round k) in let b = h .behind in let e = h .end-is in let a = h .ends-at in omega (arith, lengths t w))
+    (λ c. omega (arith, bounds t (tree (c .before .before)), start (round (tree (c .before .before))) .fits))
+    (λ c. omega (arith, bounds t (tree (c .before .before)), start (round (tree (c .before .before)))))
+    (λ c. omega (arith, bounds t (tree (c .before .before))))
+    (λ c. omega (arith, bounds t (tree (c .before .before))))
+    (λ c. omega (arith, bounds t (tree (c .before .before)), lengths t (c .before .before) .0))
+    (λ c. omega (arith, bounds t (tree (c .before .before .before)), start (round (tree (c .before .before .before)))))
+    (λ c. omega (arith, bounds t (tree (c .before .before .before))))
+    (λ c. omega (arith, bounds t (tree (c .before .before .before))))
+    (λ c. omega (arith, bounds t (tree (c .before .before .before)), lengths t (c .before .before .before) .1))
     (λ c κs.
-    let w : Written t = search in
-    let p : Corner t = corner w in
-    let k : Child t = child p in
+    let w : Written t = c .before .before .before .before in
+    let k : Child t = tree w in
     let s = start (round k) in
     let h = first t (round k) in
     let n = lengths t w in
-    let b = h .behind in
-    let e = h .end-is in
-    let a = h .ends-at in (
-      omega (arith, s .pre .0, h .behind, h .end-is, h .ends-at),
+    let b = bounds t k in (
+      omega (arith, s .pre .0, b),
       (
-        omega (arith, s .pre .1 .0, h .end-is, h .ends-at),
-        boxed-in h _ _ _ _ _ (h .end-is) (child-at t k) (inner-at t p) (part-length _ _ (s .args .from) _ b (omega arith) (omega arith)) (part-length _ _ (s .args .from) _ b (omega arith) (omega arith)),
+        omega (arith, s .pre .1 .0, b),
+        boxed-in h _ _ _ _ _ (h .end-is) (child-at t k) (inner-at t (corner w)) (part-length _ _ (s .args .from) _ (b .0) (b .1 .0) (omega (arith, b, n)))
+            (part-length _ _ (s .args .from) _ (b .0) (b .1 .0) (omega (arith, b, n))),
       ),
     ))
-    (λ c. let k : Child t = search in let h = first t (round k) in let b = h .behind in let e = h .end-is in let a = h .ends-at in omega arith)
+    (λ c. omega (arith, bounds t (tree (c .before .before .before .before .before .before .before .before .before))))
     (λ c.
     let y : Filled t = c .before .before .before .before in
     let w : Written t = y .before .before .before .before .before in
