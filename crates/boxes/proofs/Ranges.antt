@@ -1,8 +1,8 @@
 -- The cases of the definitions, with a difference in the place of each sum, which may not fit.
-use mathlib.Core.Path.{_≡_, refl, sym, _∙_}
+use mathlib.Core.Path.{_≡_, sym, _∙_}
 use mathlib.Core.Bool.{Bool, true, false, cond, _||_}
 use mathlib.Core.List.{List}
-use mathlib.Core.Logic.{_⊎_, inl, inr}
+use mathlib.Core.Logic.{inl, inr}
 use Prim.Native.Nat.{ℕ, _+_, _-_, _≤_, _<_}
 use native.Mathlib.Omega.{arith}
 use lib.Dec.{leb, ltb}
@@ -11,19 +11,10 @@ use borrow.Author.Tests.{le-leb, lt-leb, leb-true, lt-ltb, le-ltb, ltb-false}
 use Rattle.rules.specs.Limits.{greatest}
 use Rattle.rules.proofs.Bools.{or-none}
 use Rattle.rules.proofs.Cases.{by-lt}
+use Rattle.rules.proofs.Ranges.{Clear, le-same}
 use Rattle.boxes.specs.Boxes.{written, within, apart, boxOf, past, nextChild, cornerOf, innerOf, cornerCut}
 use Rattle.boxes.specs.declared.Box.{Box}
 use Rattle.boxes.specs.declared.Cut.the-variants.{Parts, None}
-
--- two tests of order that say the same
-pub le-same : {a b c d : ℕ} → (a ≤ b → c ≤ d) → (c ≤ d → a ≤ b) → leb a b ≡ leb c d
-le-same {a} {b} {c} {d} f g = go (leb a b) refl (leb c d) refl
-  where
-    go : (s : Bool) → leb a b ≡ s → (t : Bool) → leb c d ≡ t → s ≡ t
-    go true e true h = refl
-    go true e false h = sym (le-leb c d (f (leb-true a b e))) ∙ h
-    go false e true h = sym (sym (le-leb a b (g (leb-true c d h))) ∙ e)
-    go false e false h = refl
 
 -- a coordinate is past 64 bits, with a difference in the place of the sum
 pub lt-past : (a n : ℕ) → a ≤ 18446744073709551615 → ltb (18446744073709551615 - a) n ≡ past (a + n)
@@ -35,10 +26,6 @@ lt-past a n h =
 -- neither of two coordinates is
 pub not-past : {a b : ℕ} {s t : Bool} → s ≡ past a → t ≡ past b → (s || t) ≡ false → (a ≤ 18446744073709551615) × (b ≤ 18446744073709551615)
 not-past e f g = let h = or-none _ _ g in (ltb-false _ _ (sym e ∙ h .0), ltb-false _ _ (sym f ∙ h .1))
-
--- one of two ranges ends before the other begins
-abbrev pub Clear : (a q b p : ℕ) → Type 0
-Clear a q b p = (a + q ≤ b) ⊎ (b + p ≤ a)
 
 module _ (a q b p : ℕ) where
   pub apart-clear : apart a q b p ≡ true → Clear a q b p
