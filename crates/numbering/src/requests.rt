@@ -5,16 +5,13 @@ ghost use lib.ListN.{length};
 ghost use Rattle.rules.specs.Lent.{old, new};
 ghost use Rattle.request.specs.Numbering.{lefts, rights};
 ghost use Rattle.request.specs.Reading.{requestOf};
-ghost use Rattle.request.specs.inside.Says.{requestSays};
-ghost use Rattle.request.specs.inside.Work.{summary};
+ghost use Rattle.reading.specs.Says.{requestSays, summary};
 ghost use Rattle.numbering.specs.Numbered.{Begins, EntriesIn, leftNumbers, rightNumbers};
 ghost use Rattle.numbering.specs.inside.Boxed.{Held, forestIn, numbersOf};
 use crate::trees::number_trees;
 use boxes::Box;
-use boxes::LValue;
-use boxes::RValue;
-use request::RequestRead;
-use request::read_request;
+use reading::RequestRead;
+use reading::read_request;
 use rules::ENTRY_CAPACITY;
 use rules::GREATEST;
 
@@ -35,11 +32,7 @@ fn number_entries(
     ensures { λ _. ⌜ Begins r (numbersOf rights upright (forestIn (old quotas) (old ends) 0 entries)) ⌝ }
 {
     if quota <= GREATEST as u64 {
-        let plane = Box {
-            l: LValue(0),
-            r: RValue(0),
-            quota,
-        };
+        let plane = Box::new(0, 0, quota as u32);
         number_trees(
             quotas,
             ends,
@@ -88,7 +81,7 @@ fn number_read(
 }
 
 // A request's bytes, to its entries in their order: ids, quotas, and, where all the quotas together are at most the greatest number,
-// the quotas before each entry in L and in R.
+// the quotas before each entry in L and in R. Refused, every id and quota is 0, and `l` and `r` stay as they were.
 pub fn number_request(
     bytes: &[u8],
     ids: &mut [u32; ENTRY_CAPACITY],

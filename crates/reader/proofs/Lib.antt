@@ -1,1 +1,4 @@
+pub mod Calls
+pub mod Drawing
 pub mod Held
+pub mod ThreeDraws

@@ -2,8 +2,16 @@
 ghost use mathlib.Core.Path.{_≡_};
 ghost use Rattle.number.specs.Number.{numberAt};
 ghost use Rattle.number.specs.Says.{drawnSays};
+ghost use Rattle.reader.specs.Drawing.{nextOf, threeAt, threeSays};
 ghost use Rattle.rules.specs.Lent.{old};
 use number::Drawn;
+
+// Three numbers that stand one after another, each as it was drawn.
+pub struct Three {
+    pub first: Drawn,
+    pub second: Drawn,
+    pub third: Drawn,
+}
 
 // The bytes that a reader refers to, and its place in them.
 pub struct Reader<'a> {
@@ -37,9 +45,48 @@ impl<'a> Reader<'a> {
     }
 }
 
-// The number at a place of some bytes, drawn by a reader.
-pub fn draw_at(bytes: &[u8], at: usize) -> Drawn
-    ensures { λ d. ⌜ drawnSays d ≡ numberAt (old bytes) at ⌝ }
+// The place after a number; where none was drawn, the first place.
+fn next_of(drawn: Drawn) -> usize
+    ensures { λ n. ⌜ n ≡ nextOf (drawnSays drawn) ⌝ }
 {
-    Reader::new(bytes, at).draw()
+    match drawn {
+        Drawn::Number(_, next) => next,
+        Drawn::Refused(_) => 0,
+    }
+}
+
+fn threefold(first: Drawn, second: Drawn, third: Drawn) -> Three
+    ensures { λ t. ⌜ t ≡ record { first = first; second = second; third = third } ⌝ }
+{
+    Three {
+        first,
+        second,
+        third,
+    }
+}
+
+// Three numbers from a place on, drawn one after another by one reader.
+pub fn three_at(bytes: &[u8], at: usize) -> Three
+    ensures { λ t. ⌜ threeSays t ≡ threeAt (old bytes) at ⌝ }
+{
+    let reader = Reader::new(bytes, at);
+    let first = reader.draw();
+    let reader = reader.after(next_of(first));
+    let second = reader.draw();
+    let reader = reader.after(next_of(second));
+    let third = reader.draw();
+    threefold(first, second, third)
+}
+
+// The same, for a head. Each of the two has one caller, and is compiled into it: one function for both would be a call for each entry.
+pub fn head_at(bytes: &[u8], at: usize) -> Three
+    ensures { λ t. ⌜ threeSays t ≡ threeAt (old bytes) at ⌝ }
+{
+    let reader = Reader::new(bytes, at);
+    let first = reader.draw();
+    let reader = reader.after(next_of(first));
+    let second = reader.draw();
+    let reader = reader.after(next_of(second));
+    let third = reader.draw();
+    threefold(first, second, third)
 }

@@ -13,7 +13,7 @@ use crate::Verdict;
 use crate::judging::judge;
 use crate::placing::place;
 use numbering::number_request;
-use request::RequestRead;
+use reading::RequestRead;
 use rules::ENTRY_CAPACITY;
 use table::Checked;
 use table::Counted;

@@ -2,7 +2,7 @@
 use mathlib.Core.Path.{_≡_, refl, sym, _∙_, ap}
 use mathlib.Core.Bool.{Bool, true, false}
 use mathlib.Core.List.{List, [], _++_, append-assoc, append-nil}
-use Prim.Native.Nat.{ℕ, zero, suc, _+_, _≤_}
+use Prim.Native.Nat.{ℕ, zero, suc, _+_, _≤_, _<_}
 use native.Mathlib.Omega.{arith}
 use lib.Dec.{leb}
 use lib.ListN.{length, take, drop, length-append, length-drop, length-take, take-append-drop}
@@ -69,21 +69,35 @@ count-some : (t : Forest) → 1 ≤ size t → 1 ≤ treeCount t
 count-some none h = h
 count-some (tree e c r) h = omega arith
 
+-- a tree's entry, the trees below it and the trees to its right, each at its position
+trees-step : (bytes : List ℕ) (room n at used : ℕ) (e : Entry) (c r : Forest) (i j k : ℕ) {m : ℕ} → used < mostEntries
+    → entryAt bytes at ≡ answer (record { id = e .id; quota = e .quota; children = treeCount c; next = i })
+    → treesAt room (treeCount c) bytes i (used + 1) ≡ answer (record { trees = c; next = j; used = used + 1 + size c })
+    → treesAt (suc room) n bytes j (used + 1 + size c) ≡ answer (record { trees = r; next = k; used = m })
+    → treesAt (suc room) (suc n) bytes at used ≡ answer (record { trees = tree e c r; next = k; used = m })
+unfolding treesAt treesBy treeBy notFull
+trees-step bytes room n at used e c r i j k l x y z = rw (lt-ltb used mostEntries l, x, y, z)
+
 -- trees' bytes at a position
 trees-back : (t : Forest) (room : ℕ) (bytes : List ℕ) (at used : ℕ) (rest : List ℕ) → LegalTrees t → depth t ≤ room → used + size t ≤ mostEntries
     → drop at bytes ≡ treesBytes t ++ rest
     → (next : ℕ) × (treesAt room (treeCount t) bytes at used ≡ answer (record { trees = t; next = next; used = used + size t })) × (drop next bytes ≡ rest)
-unfolding treesBytes treesAt treesBy treeBy notFull
+unfolding treesBytes treesAt treesBy
 trees-back none room bytes at used rest f d u s = (at, ap (λ n. answer (record { trees = none; next = at; used = n })) (omega arith), s)
 trees-back (tree e c r) zero bytes at used rest f d u s = absurd (omega (arith, depth-parts (depth c) (depth r) 0 d))
 trees-back (tree e c r) (suc room) bytes at used rest f d u s =
     let p = depth-parts (depth c) (depth r) (suc room) d in
     let k = count-size c in
-    let x = entry-back bytes at e (treeCount c) (treesBytes c ++ (treesBytes r ++ rest)) (f .0) (f .1) (omega arith) (simp append-assoc at s) in
-    let y = trees-back c room bytes (x .0) (used + 1) (treesBytes r ++ rest) (f .2) (omega arith) (omega arith) (x .2) in
-    let z = trees-back r (suc room) bytes (y .0) (used + 1 + size c) rest (f .3) (p .1) (omega arith) (y .2) in
+    let l : treeCount c ≤ greatest = omega arith in
+    let dc : depth c ≤ room = omega arith in
+    let uc : used + 1 + size c ≤ mostEntries = omega arith in
+    let ur : used + 1 + size c + size r ≤ mostEntries = omega arith in
+    let m : used < mostEntries = omega arith in
     let n : used + 1 + size c + size r ≡ used + suc (size c + size r) = omega arith in
-    (z .0, rw (lt-ltb used mostEntries (omega arith), x .1, y .1, z .1, n), z .2)
+    let x = entry-back bytes at e (treeCount c) (treesBytes c ++ (treesBytes r ++ rest)) (f .0) (f .1) l (simp append-assoc at s) in
+    let y = trees-back c room bytes (x .0) (used + 1) (treesBytes r ++ rest) (f .2) dc uc (x .2) in
+    let z = trees-back r (suc room) bytes (y .0) (used + 1 + size c) rest (f .3) (p .1) ur (y .2) in
+    (z .0, rw (← n) (trees-step bytes room (treeCount r) at used e c r (x .0) (y .0) (z .0) m (x .1) (y .1) (z .1)), z .2)
 
 -- ## A request
 

@@ -12,8 +12,11 @@ use Rattle.request.specs.Forest.{Forest, none, tree, Direction, upright,
 use Rattle.request.specs.Request.{Request}
 
 -- a number that may not be 0. 4: exploded id, tree count, entry id or quota is 0
+abbrev pub positiveOf : Answer Number → Answer Number
+positiveOf drawn = then drawn λ n. cond (eqb (n .value) 0) (refused 4) (answer n)
+
 unfoldable pub positiveAt : List ℕ → ℕ → Answer Number
-positiveAt bytes at = then (numberAt bytes at) λ n. cond (eqb (n .value) 0) (refused 4) (answer n)
+positiveAt bytes at = positiveOf (numberAt bytes at)
 
 -- an entry: id, quota, number of children; and the position after it
 pub record EntryRead : Type 0 where
