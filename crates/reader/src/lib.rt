@@ -80,7 +80,7 @@ pub fn three_at(bytes: &[u8], at: usize) -> Three
 
 // The same, for a head. Each of the two has one caller, and is compiled into it: one function for both would be a call for each entry.
 pub fn head_at(bytes: &[u8], at: usize) -> Three
-    ensures { λ t. ⌜ threeSays t ≡ threeAt (old bytes) at ⌝ }
+    ensures { λ h. ⌜ threeSays h ≡ threeAt (old bytes) at ⌝ }
 {
     let reader = Reader::new(bytes, at);
     let first = reader.draw();
