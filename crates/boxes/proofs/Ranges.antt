@@ -1,28 +1,31 @@
 -- The cases of the definitions, with a difference in the place of each sum, which may not fit.
-use mathlib.Core.Path.{_≡_, refl, sym, _∙_}
-use mathlib.Core.Bool.{Bool, true, false, cond}
-use mathlib.Core.Logic.{_⊎_, inl, inr}
+use mathlib.Core.Path.{_≡_, sym, _∙_}
+use mathlib.Core.Bool.{Bool, true, false, cond, _||_}
+use mathlib.Core.List.{List}
+use mathlib.Core.Logic.{inl, inr}
 use Prim.Native.Nat.{ℕ, _+_, _-_, _≤_, _<_}
 use native.Mathlib.Omega.{arith}
-use lib.Dec.{leb}
-use borrow.Author.Tests.{le-leb, lt-leb, leb-true, lt-ltb, le-ltb}
-use Rattle.boxes.specs.Boxes.{within, apart, boxOf, nextChild}
+use lib.Dec.{leb, ltb}
+use lib.ListN.{set}
+use borrow.Author.Tests.{le-leb, lt-leb, leb-true, lt-ltb, le-ltb, ltb-false}
+use Rattle.rules.specs.Limits.{greatest}
+use Rattle.rules.proofs.Bools.{or-none}
+use Rattle.rules.proofs.Cases.{by-lt}
+use Rattle.rules.proofs.Ranges.{Clear, le-same}
+use Rattle.boxes.specs.Boxes.{written, within, apart, boxOf, past, nextChild, cornerOf, innerOf, cornerCut}
 use Rattle.boxes.specs.declared.Box.{Box}
 use Rattle.boxes.specs.declared.Cut.the-variants.{Parts, None}
 
--- two tests of order that say the same
-pub le-same : {a b c d : ℕ} → (a ≤ b → c ≤ d) → (c ≤ d → a ≤ b) → leb a b ≡ leb c d
-le-same {a} {b} {c} {d} f g = go (leb a b) refl (leb c d) refl
-  where
-    go : (s : Bool) → leb a b ≡ s → (t : Bool) → leb c d ≡ t → s ≡ t
-    go true e true h = refl
-    go true e false h = sym (le-leb c d (f (leb-true a b e))) ∙ h
-    go false e true h = sym (sym (le-leb a b (g (leb-true c d h))) ∙ e)
-    go false e false h = refl
+-- a coordinate is past 64 bits, with a difference in the place of the sum
+pub lt-past : (a n : ℕ) → a ≤ 18446744073709551615 → ltb (18446744073709551615 - a) n ≡ past (a + n)
+lt-past a n h =
+    by-lt (18446744073709551615 - a) n
+    (λ k. rw (lt-ltb _ _ k, lt-ltb 18446744073709551615 (a + n) (omega arith)))
+    (λ k. rw (le-ltb _ _ k, le-ltb 18446744073709551615 (a + n) (omega arith)))
 
--- one of two ranges ends before the other begins
-abbrev pub Clear : (a q b p : ℕ) → Type 0
-Clear a q b p = (a + q ≤ b) ⊎ (b + p ≤ a)
+-- neither of two coordinates is
+pub not-past : {a b : ℕ} {s t : Bool} → s ≡ past a → t ≡ past b → (s || t) ≡ false → (a ≤ 18446744073709551615) × (b ≤ 18446744073709551615)
+not-past e f g = let h = or-none _ _ g in (ltb-false _ _ (sym e ∙ h .0), ltb-false _ _ (sym f ∙ h .1))
 
 module _ (a q b p : ℕ) where
   pub apart-clear : apart a q b p ≡ true → Clear a q b p
@@ -59,20 +62,34 @@ module _ (a q b p : ℕ) where
   unfolding within
   within-before h = rw (lt-leb _ _ h)
 
+-- a coordinate that has 32 bits is written
+pub writes : (column : List ℕ) (i n : ℕ) → n ≤ greatest → written column i n ≡ set column i n
+unfolding written
+writes column i n h = rw (le-leb _ _ h)
+
 module _ (b : Box) (q : ℕ) where
   pub too-small : b .quota < q → None ≡ nextChild b q
   unfolding nextChild
   too-small h = rw (lt-ltb _ _ h)
 
-  pub past-l : q ≤ b .quota → 18446744073709551615 < b .l .0 + q → None ≡ nextChild b q
+  pub too-far : q ≤ b .quota → (past (b .l .0 + q) || past (b .r .0 + (b .quota - q))) ≡ true → None ≡ nextChild b q
   unfolding nextChild
-  past-l h k = rw (le-ltb _ _ h, lt-ltb _ _ k)
-
-  pub past-r : q ≤ b .quota → b .l .0 + q ≤ 18446744073709551615 → 18446744073709551615 < b .r .0 + (b .quota - q) → None ≡ nextChild b q
-  unfolding nextChild
-  past-r h k m = rw (le-ltb _ _ h, le-ltb _ _ k, lt-ltb _ _ m)
+  too-far h e = rw (le-ltb _ _ h, e)
 
   pub parts : q ≤ b .quota → b .l .0 + q ≤ 18446744073709551615 → b .r .0 + (b .quota - q) ≤ 18446744073709551615
       → Parts (boxOf (b .l .0) (b .r .0 + (b .quota - q)) q) (boxOf (b .l .0 + q) (b .r .0) (b .quota - q)) ≡ nextChild b q
   unfolding nextChild
   parts h k m = rw (le-ltb _ _ h, le-ltb _ _ k, le-ltb _ _ m)
+
+  pub corner-none : (up : Bool) → (ltb (b .quota) q || (past (b .l .0 + b .quota) || past (b .r .0 + b .quota))) ≡ true → None ≡ cornerCut up b q
+  unfolding cornerCut
+  corner-none up e = rw e
+
+  pub corner-parts : (up : Bool) → q ≤ b .quota → b .l .0 + b .quota ≤ 18446744073709551615 → b .r .0 + b .quota ≤ 18446744073709551615
+      → Parts (cornerOf up b q) (innerOf up b q) ≡ cornerCut up b q
+  unfolding cornerCut
+  corner-parts up h k m = rw (le-ltb _ _ h, le-ltb _ _ k, le-ltb _ _ m)
+
+  pub corner-whole : {s t : Bool} → s ≡ past (b .l .0 + b .quota) → t ≡ past (b .r .0 + b .quota) → (ltb (b .quota) q || (s || t)) ≡ false
+      → (q ≤ b .quota) × ((b .l .0 + b .quota ≤ 18446744073709551615) × (b .r .0 + b .quota ≤ 18446744073709551615))
+  corner-whole e f g = let h = or-none _ _ g in (ltb-false _ _ (h .0), not-past e f (h .1))

@@ -1,14 +1,34 @@
 -- Ranges and boxes (document 01, "The table"): a group's box is the l range from l to l + q − 1 and the r range from r to r + q − 1.
 use Prim.Native.Nat.{ℕ, _+_, _-_}
-use mathlib.Core.Bool.{Bool, cond, _&&_, _||_}
+use mathlib.Core.Bool.{Bool, true, false, cond, _&&_, _||_}
+use mathlib.Core.List.{List}
 use lib.Dec.{leb, ltb}
+use lib.ListN.{set}
+use Rattle.rules.specs.Limits.{greatest}
 use Rattle.boxes.specs.declared.Box.{Box}
 use Rattle.boxes.specs.declared.Cut.{Cut}
 use Rattle.boxes.specs.declared.Cut.the-variants.{Parts, None}
+use Rattle.boxes.specs.declared.LValue.{LValue}
+use Rattle.boxes.specs.declared.RValue.{RValue}
+
+-- the coordinates of a number
+abbrev pub lOf : ℕ → LValue
+lOf n = record { 0 = n }
+
+abbrev pub rOf : ℕ → RValue
+rOf n = record { 0 = n }
 
 -- one coordinate is at most another of its kind
 abbrev pub atMost : ℕ → ℕ → Bool
 atMost a b = leb a b
+
+-- a column with a coordinate written to place i; it stays as it is where the coordinate passes the greatest number. Past its end there is no place
+unfoldable pub written : List ℕ → ℕ → ℕ → List ℕ
+written column i n = cond (leb n greatest) (set column i n) column
+
+-- a coordinate past 64 bits
+abbrev pub past : ℕ → Bool
+past n = ltb 18446744073709551615 n
 
 -- the p numbers from b on are among the q numbers from a on
 unfoldable pub within : ℕ → ℕ → ℕ → ℕ → Bool
@@ -19,7 +39,7 @@ unfoldable pub apart : ℕ → ℕ → ℕ → ℕ → Bool
 apart a q b p = cond (leb a b) (leb (a + q) b) (leb (b + p) a)
 
 abbrev pub boxOf : ℕ → ℕ → ℕ → Box
-boxOf l r q = record { l = record { 0 = l }; r = record { 0 = r }; quota = q }
+boxOf l r q = record { l = lOf l; r = rOf r; quota = q }
 
 -- y lies in x
 unfoldable pub contains : Box → Box → Bool
@@ -33,6 +53,23 @@ disjoint x y = apart (x .l .0) (x .quota) (y .l .0) (y .quota) && apart (x .r .0
 -- None where the box has less, or lies past 64 bits
 unfoldable pub nextChild : Box → ℕ → Cut
 nextChild b q =
-    cond (ltb (b .quota) q || (ltb 18446744073709551615 (b .l .0 + q) || ltb 18446744073709551615 (b .r .0 + (b .quota - q))))
+    cond (ltb (b .quota) q || (past (b .l .0 + q) || past (b .r .0 + (b .quota - q))))
     None
     (Parts (boxOf (b .l .0) (b .r .0 + (b .quota - q)) q) (boxOf (b .l .0 + q) (b .r .0) (b .quota - q)))
+
+-- a parent in the box of its subtree: it stands at the low corner (true: upright) or the high corner (false: inverted)
+abbrev pub cornerOf : Bool → Box → ℕ → Box
+cornerOf true b own = boxOf (b .l .0) (b .r .0) own
+cornerOf false b own = boxOf (b .l .0 + (b .quota - own)) (b .r .0 + (b .quota - own)) own
+
+-- and its children share the rest
+abbrev pub innerOf : Bool → Box → ℕ → Box
+innerOf true b own = boxOf (b .l .0 + own) (b .r .0 + own) (b .quota - own)
+innerOf false b own = boxOf (b .l .0) (b .r .0) (b .quota - own)
+
+-- the two parts. None where the box has less than the parent's own quota, or ends past 64 bits
+unfoldable pub cornerCut : Bool → Box → ℕ → Cut
+cornerCut up b own =
+    cond (ltb (b .quota) own || (past (b .l .0 + b .quota) || past (b .r .0 + b .quota)))
+    None
+    (Parts (cornerOf up b own) (innerOf up b own))

@@ -1,20 +1,51 @@
 // Boxes in the l–r plane: a group's l range and r range (document 01, "The table").
 ghost use mathlib.Core.Path.{_≡_};
-ghost use Prim.Native.Nat.{_≤_};
-ghost use Rattle.boxes.specs.Boxes.{boxOf, within, contains, apart, disjoint, atMost, nextChild};
+ghost use Prim.Native.Nat.{_+_, _≤_};
+ghost use Rattle.rules.specs.Lent.{old, new};
+ghost use Rattle.boxes.specs.Boxes.{lOf, rOf, boxOf, within, contains, apart, disjoint, atMost, written, past, nextChild, cornerCut};
+use rules::GREATEST;
 
-// An l-value. The two coordinates are types of their own, so that no l-value is compared with an r-value.
+// An l-value. The two coordinates are types of their own, and their numbers are private, so that no l-value is compared with an r-value.
 // 64 bits: a box may end at 4294967295, and what is left of it then begins one past that.
-pub struct LValue(pub u64);
+pub struct LValue(u64);
 
 // An r-value.
-pub struct RValue(pub u64);
+pub struct RValue(u64);
+
+// A group's box: the l range from l to l + quota - 1, and the r range from r to r + quota - 1.
+pub struct Box {
+    pub l: LValue,
+    pub r: RValue,
+    pub quota: u64,
+}
+
+// A box with a part cut off it.
+pub enum Cut {
+    // The part, and what is left.
+    Parts(Box, Box),
+    // The box has less than the part's quota, or lies past 64 bits.
+    None,
+}
 
 impl LValue {
+    // The l-value of a number.
+    pub fn new(n: u64) -> LValue
+        ensures { λ x. ⌜ x ≡ lOf n ⌝ }
+    {
+        LValue(n)
+    }
+
     pub fn at_most(self, l: LValue) -> bool
         ensures { λ t. ⌜ t ≡ atMost (self .0) (l .0) ⌝ }
     {
         self.0 <= l.0
+    }
+
+    // Writes it to a place of a column.
+    pub fn write(self, column: &mut [u32], i: usize)
+        ensures { λ _. ⌜ new column ≡ written (old column) i (self .0) ⌝ }
+    {
+        write(column, i, self.0);
     }
 
     // Of the l ranges of q numbers from here on and of p numbers from there on, the second lies in the first.
@@ -30,13 +61,42 @@ impl LValue {
     {
         apart(self.0, q, there.0, p)
     }
+
+    // The l-value n numbers on is past 64 bits.
+    fn passes(self, n: u64) -> bool
+        ensures { λ t. ⌜ t ≡ past (self .0 + n) ⌝ }
+    {
+        passes(self.0, n)
+    }
+
+    // The l-value n numbers on.
+    fn plus(self, n: u64) -> LValue
+        requires { ⌜ self .0 + n ≤ 18446744073709551615 ⌝ }
+        ensures { λ x. ⌜ x ≡ lOf (self .0 + n) ⌝ }
+    {
+        LValue(self.0 + n)
+    }
 }
 
 impl RValue {
+    // The r-value of a number.
+    pub fn new(n: u64) -> RValue
+        ensures { λ x. ⌜ x ≡ rOf n ⌝ }
+    {
+        RValue(n)
+    }
+
     pub fn at_most(self, r: RValue) -> bool
         ensures { λ t. ⌜ t ≡ atMost (self .0) (r .0) ⌝ }
     {
         self.0 <= r.0
+    }
+
+    // Writes it to a place of a column.
+    pub fn write(self, column: &mut [u32], i: usize)
+        ensures { λ _. ⌜ new column ≡ written (old column) i (self .0) ⌝ }
+    {
+        write(column, i, self.0);
     }
 
     // The same of two r ranges.
@@ -51,21 +111,21 @@ impl RValue {
     {
         apart(self.0, q, there.0, p)
     }
-}
 
-// A group's box: the l range from l to l + quota - 1, and the r range from r to r + quota - 1.
-pub struct Box {
-    pub l: LValue,
-    pub r: RValue,
-    pub quota: u64,
-}
+    // The r-value n numbers on is past 64 bits.
+    fn passes(self, n: u64) -> bool
+        ensures { λ t. ⌜ t ≡ past (self .0 + n) ⌝ }
+    {
+        passes(self.0, n)
+    }
 
-// A box with its next child cut off.
-pub enum Cut {
-    // The child's box, and what is left.
-    Parts(Box, Box),
-    // The box has less than the child's quota, or lies past 64 bits.
-    None,
+    // The r-value n numbers on.
+    fn plus(self, n: u64) -> RValue
+        requires { ⌜ self .0 + n ≤ 18446744073709551615 ⌝ }
+        ensures { λ x. ⌜ x ≡ rOf (self .0 + n) ⌝ }
+    {
+        RValue(self.0 + n)
+    }
 }
 
 // The second of two ranges lies in the first.
@@ -91,14 +151,32 @@ fn apart(a: u64, q: u64, b: u64, p: u64) -> bool
     p <= a - b
 }
 
+// n numbers on from a is past 64 bits.
+fn passes(a: u64, n: u64) -> bool
+    ensures { λ t. ⌜ t ≡ past (a + n) ⌝ }
+{
+    18446744073709551615 - a < n
+}
+
+// Writes n to place i of a column, where n has 32 bits and the column has the place.
+fn write(column: &mut [u32], i: usize, n: u64)
+    ensures { λ _. ⌜ new column ≡ written (old column) i n ⌝ }
+{
+    if n <= GREATEST as u64 {
+        if i < column.len() {
+            column[i] = n as u32;
+        }
+    }
+}
+
 impl Box {
     // The box of a row.
     pub fn new(l: u32, r: u32, quota: u32) -> Box
         ensures { λ b. ⌜ b ≡ boxOf l r quota ⌝ }
     {
         Box {
-            l: LValue(l as u64),
-            r: RValue(r as u64),
+            l: LValue::new(l as u64),
+            r: RValue::new(r as u64),
             quota: quota as u64,
         }
     }
@@ -127,29 +205,57 @@ impl Box {
     pub fn next_child(self, quota: u64) -> Cut
         ensures { λ c. ⌜ c ≡ nextChild self quota ⌝ }
     {
-        let l = self.l.0;
-        let r = self.r.0;
         if self.quota < quota {
             return Cut::None;
         }
+        let l = self.l;
+        let r = self.r;
         let left = self.quota - quota;
-        if 18446744073709551615 - l < quota {
-            return Cut::None;
-        }
-        if 18446744073709551615 - r < left {
+        if l.passes(quota) | r.passes(left) {
             return Cut::None;
         }
         Cut::Parts(
             Box {
-                l: LValue(l),
-                r: RValue(r + left),
+                l,
+                r: r.plus(left),
                 quota,
             },
             Box {
-                l: LValue(l + quota),
-                r: RValue(r),
+                l: l.plus(quota),
+                r,
                 quota: left,
             },
+        )
+    }
+
+    // A parent in the box of its subtree, cut off along the rising diagonal: it takes the low corner (upright) or the high corner
+    // (inverted), and its children share what is left.
+    pub fn corner(self, upright: bool, own: u64) -> Cut
+        ensures { λ c. ⌜ c ≡ cornerCut upright self own ⌝ }
+    {
+        let l = self.l;
+        let r = self.r;
+        if (self.quota < own) | (l.passes(self.quota) | r.passes(self.quota)) {
+            return Cut::None;
+        }
+        let inner = self.quota - own;
+        if upright {
+            return Cut::Parts(
+                Box { l, r, quota: own },
+                Box {
+                    l: l.plus(own),
+                    r: r.plus(own),
+                    quota: inner,
+                },
+            );
+        }
+        Cut::Parts(
+            Box {
+                l: l.plus(inner),
+                r: r.plus(inner),
+                quota: own,
+            },
+            Box { l, r, quota: inner },
         )
     }
 }

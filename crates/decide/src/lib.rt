@@ -59,7 +59,7 @@ pub fn decide(feature: u32, l: u32, r: u32, day: u32, grants: &[u8]) -> Decided
                 return Decided::Refused(why);
             }
             GrantDrawn::Grant(g, next) => {
-                if applies(feature, LValue(l as u64), RValue(r as u64), g) {
+                if applies(feature, LValue::new(l as u64), RValue::new(r as u64), g) {
                     t = count_in(day, t, g.first, g.last);
                 }
                 at = next;

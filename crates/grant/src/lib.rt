@@ -49,8 +49,8 @@ fn checked_grant(feature: u32, l: u32, r: u32, first: u32, last: u32, next: usiz
     }
     let g = Grant {
         feature,
-        l: LValue(l as u64),
-        r: RValue(r as u64),
+        l: LValue::new(l as u64),
+        r: RValue::new(r as u64),
         first,
         last,
     };

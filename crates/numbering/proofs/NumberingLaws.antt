@@ -8,15 +8,14 @@ use native.Mathlib.Numerals.{add-one}
 use lib.ListN.{length, getD, take, drop, set, length-set, length-drop, length-append}
 use lib.Seq.{take-all, take-suc-set, take-append-seam, take-append-add, length-take-le, append-snoc}
 use borrow.Author.Tests.{lt-ltb, le-ltb}
-use Rattle.boxes.specs.Boxes.{boxOf, nextChild}
+use Rattle.boxes.specs.Boxes.{boxOf, written, nextChild, cornerOf, innerOf, cornerCut}
 use Rattle.boxes.specs.declared.Box.{Box}
 use Rattle.boxes.specs.declared.Cut.{Cut}
 use Rattle.boxes.specs.declared.Cut.the-variants.{Parts, None}
-use Rattle.boxes.proofs.Ranges.{parts}
+use Rattle.boxes.proofs.Ranges.{writes, parts, corner-parts}
 use Rattle.request.specs.Entries.{Entry, entry, quota}
 use Rattle.request.specs.Forest.{Forest, none, tree}
 use Rattle.request.specs.Numbering.{whole, size, lefts, rights, upL, upR, downL, downR}
-use Rattle.numbering.specs.inside.Corners.{cornerOf, innerOf}
 use Rattle.reading.specs.Work.{Work, work}
 use Rattle.reading.specs.inside.Work.{TreesIn, directionBy}
 use Rattle.numbering.specs.inside.Boxed.{treesOf, forestIn, Boxed, BoxedIn}
@@ -224,11 +223,10 @@ filled-length s ys i k e x ke es n =
     (omega arith)
 
 -- the part of a work column that is lent to the children of entry p
-pub part-length : (s : List ℕ) (p from end x : ℕ) → from ≤ p → p < end → end - from ≤ length s
-    → length (take (end - from - (p - from + 1)) (drop (p - from + 1) (set s (p - from) x))) ≡ end - (p + 1)
-part-length s p from end x bh h es =
-    let m = length-set s (p - from) x in
-    length-take-le (end - from - (p - from + 1)) (drop (p - from + 1) (set s (p - from) x)) (rw (length-drop (p - from + 1) (set s (p - from) x)) (omega arith)) ∙ omega arith
+pub part-length : (s : List ℕ) (p from end : ℕ) → from ≤ p → p < end → end - from ≤ length s
+    → length (take (end - from - (p - from + 1)) (drop (p - from + 1) s)) ≡ end - (p + 1)
+part-length s p from end bh h es =
+    length-take-le (end - from - (p - from + 1)) (drop (p - from + 1) s) (rw (length-drop (p - from + 1) s) (omega arith)) ∙ omega arith
 
 module _ {w : Work} {up : Bool} {from to : ℕ} {ls rs : List ℕ} {p bl br b : ℕ} {l r : List ℕ} (h : Here w up from to ls rs p bl br b l r) where
   -- the box of the first tree, and what is left
@@ -254,13 +252,13 @@ module _ {w : Work} {up : Bool} {from to : ℕ} {ls rs : List ℕ} {p bl br b : 
       go false = let f = h .fits in let le = h .l-end in let re = h .r-end in
           record { stored = h .stored-children; ends-at = refl; fits = omega arith; l-end = omega arith; r-end = omega arith; l-part = nl; r-part = nr }
 
-  -- the root's place fits 32 bits
-  pub corner-fits : (child : Box) → child ≡ childOf bl br b (getD (w .quotas) p 0 + whole (h .children))
-      → (cornerOf up child (getD (w .quotas) p 0) .l .0 < (greatest + 1)) × (cornerOf up child (getD (w .quotas) p 0) .r .0 < (greatest + 1))
+  -- the root's place has 32 bits
+  corner-fits : (child : Box) → child ≡ childOf bl br b (getD (w .quotas) p 0 + whole (h .children))
+      → (cornerOf up child (getD (w .quotas) p 0) .l .0 ≤ greatest) × (cornerOf up child (getD (w .quotas) p 0) .r .0 ≤ greatest)
   corner-fits child e = rw e (go up)
     where
-      go : (v : Bool) → (cornerOf v (childOf bl br b (getD (w .quotas) p 0 + whole (h .children))) (getD (w .quotas) p 0) .l .0 < (greatest + 1))
-          × (cornerOf v (childOf bl br b (getD (w .quotas) p 0 + whole (h .children))) (getD (w .quotas) p 0) .r .0 < (greatest + 1))
+      go : (v : Bool) → (cornerOf v (childOf bl br b (getD (w .quotas) p 0 + whole (h .children))) (getD (w .quotas) p 0) .l .0 ≤ greatest)
+          × (cornerOf v (childOf bl br b (getD (w .quotas) p 0 + whole (h .children))) (getD (w .quotas) p 0) .r .0 ≤ greatest)
       go true = let f = h .fits in let le = h .l-end in let re = h .r-end in let o = h .some in (omega arith, omega arith)
       go false = let f = h .fits in let le = h .l-end in let re = h .r-end in let o = h .some in (omega arith, omega arith)
 
@@ -305,17 +303,17 @@ module _ {w : Work} {up : Bool} {from to : ℕ} {ls rs : List ℕ} {p bl br b : 
             ∙ h .r-whole;
       }
 
-  pub moves : (i k e end : ℕ) (ys zs : List ℕ) (child rest place : Box) → i ≡ p - from → k ≡ i + 1 → e ≡ end - from → end ≡ p + 1 + size (h .children)
+  pub moves : (i k e end : ℕ) (l′ r′ ys zs : List ℕ) (child rest place : Box) → i ≡ p - from → k ≡ i + 1 → e ≡ end - from → end ≡ p + 1 + size (h .children)
       → child ≡ childOf bl br b (getD (w .quotas) p 0 + whole (h .children))
       → rest ≡ boxOf (bl + (getD (w .quotas) p 0 + whole (h .children))) br (b - (getD (w .quotas) p 0 + whole (h .children)))
-      → place ≡ cornerOf up child (getD (w .quotas) p 0)
+      → place ≡ cornerOf up child (getD (w .quotas) p 0) → l′ ≡ written l i (place .l .0) → r′ ≡ written r i (place .r .0)
       → ys ≡ lefts (directionBy up) (innerOf up child (getD (w .quotas) p 0) .l .0) (h .children)
       → zs ≡ rights (directionBy up) (innerOf up child (getD (w .quotas) p 0) .r .0) (h .children)
-      → Numbers w up from to ls rs end (rest .l .0) (rest .r .0) (rest .quota)
-      (take k (set l i (place .l .0)) ++ (ys ++ drop (e - k) (drop k (set l i (place .l .0)))))
-      (take k (set r i (place .r .0)) ++ (zs ++ drop (e - k) (drop k (set r i (place .r .0)))))
-  moves i k e end ys zs child rest place ei ek ee en ec er ep ey ez =
-      rw (en, er, ep) (step i k e ys zs child ei ek (ee ∙ ap (λ n. n - from) en) ec ey (ap length ey ∙ lefts-length up _ (h .children)) ez (ap length ez ∙ rights-length up _ (h .children)))
+      → Numbers w up from to ls rs end (rest .l .0) (rest .r .0) (rest .quota) (take k l′ ++ (ys ++ drop (e - k) (drop k l′))) (take k r′ ++ (zs ++ drop (e - k) (drop k r′)))
+  moves i k e end l′ r′ ys zs child rest place ei ek ee en ec er ep el er′ ey ez =
+      let f = corner-fits child ec in
+      rw (el, er′, en, er, ep, writes l i _ (f .0), writes r i _ (f .1))
+      (step i k e ys zs child ei ek (ee ∙ ap (λ n. n - from) en) ec ey (ap length ey ∙ lefts-length up _ (h .children)) ez (ap length ez ∙ rights-length up _ (h .children)))
 
   -- the children's entries, boxed as the code has them
   boxed-at : (end : ℕ) (child x : Box) (ls′ rs′ : List ℕ) → end ≡ p + 1 + size (h .children) → child ≡ childOf bl br b (getD (w .quotas) p 0 + whole (h .children))
@@ -323,10 +321,23 @@ module _ {w : Work} {up : Bool} {from to : ℕ} {ls rs : List ℕ} {p bl br b : 
       → Boxed w (p + 1) end (x .l .0) (x .r .0) (x .quota) ls′ rs′ (h .children)
   boxed-at end child x ls′ rs′ en ec ex nl nr = rw (en, ex) (inner-boxed ls′ rs′ (omega arith) (omega arith) child ec)
 
-  -- what the corner and the inner box ask
-  pub corner-asks : (child : Box) → child ≡ childOf bl br b (getD (w .quotas) p 0 + whole (h .children))
-      → (getD (w .quotas) p 0 ≤ child .quota) × ((child .l .0 + child .quota ≤ (greatest + 1)) × (child .r .0 + child .quota ≤ (greatest + 1)))
-  corner-asks child e = let f = h .fits in let le = h .l-end in let re = h .r-end in rw e (omega arith)
+  -- what the code's corner says
+  module _ {cut-off : Cut} (child : Box) (ec : child ≡ childOf bl br b (getD (w .quotas) p 0 + whole (h .children))) (e : cut-off ≡ cornerCut up child (getD (w .quotas) p 0)) where
+    corner-is : cut-off ≡ Parts (cornerOf up child (getD (w .quotas) p 0)) (innerOf up child (getD (w .quotas) p 0))
+    corner-is =
+        let f = h .fits in
+        let le = h .l-end in
+        let re = h .r-end in
+        e ∙ sym (corner-parts child (getD (w .quotas) p 0) up (rw ec (omega arith)) (rw ec (omega arith)) (rw ec (omega arith)))
+
+    pub corner-there : cut-off ≡ None → ⊥
+    corner-there n = let f = corner-is in let z : _≡_ {A = ℕ} 0 1 = cc in omega arith
+
+    pub place-is : {x y : Box} → cut-off ≡ Parts x y → x ≡ cornerOf up child (getD (w .quotas) p 0)
+    place-is n = let f = corner-is in cc
+
+    pub inner-is : {x y : Box} → cut-off ≡ Parts x y → y ≡ innerOf up child (getD (w .quotas) p 0)
+    inner-is n = let f = corner-is in cc
 
   -- what the code's cut says
   module _ {cut-off : Cut} {s : ℕ} (e : cut-off ≡ nextChild (boxOf bl br b) s) (es : s ≡ getD (w .quotas) p 0 + whole (h .children)) where

@@ -10,8 +10,6 @@ ghost use Rattle.numbering.specs.Numbered.{Begins, EntriesIn, leftNumber
 ghost use Rattle.numbering.specs.inside.Boxed.{Held, forestIn, numbersOf};
 use crate::trees::number_trees;
 use boxes::Box;
-use boxes::LValue;
-use boxes::RValue;
 use reading::RequestRead;
 use reading::read_request;
 use rules::ENTRY_CAPACITY;
@@ -34,11 +32,7 @@ fn number_entries(
     ensures { λ _. ⌜ Begins r (numbersOf rights upright (forestIn (old quotas) (old ends) 0 entries)) ⌝ }
 {
     if quota <= GREATEST as u64 {
-        let plane = Box {
-            l: LValue(0),
-            r: RValue(0),
-            quota,
-        };
+        let plane = Box::new(0, 0, quota as u32);
         number_trees(
             quotas,
             ends,

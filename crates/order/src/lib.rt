@@ -58,10 +58,10 @@ fn order_rows(id: &[u32], l: &[u32], r: &[u32], i: usize, j: usize) -> Ordered
     requires { ⌜ (j < length (now id)) × (j < length (now l)) × (j < length (now r)) ⌝ }
     ensures { λ t. let c = columns (old id) (old l) (old r) [] in ⌜ orderedSays t ≡ answer (compare (rowAt c i) (rowAt c j)) ⌝ }
 {
-    let first_l = LValue(l[i] as u64);
-    let first_r = RValue(r[i] as u64);
-    let second_l = LValue(l[j] as u64);
-    let second_r = RValue(r[j] as u64);
+    let first_l = LValue::new(l[i] as u64);
+    let first_r = RValue::new(r[i] as u64);
+    let second_l = LValue::new(l[j] as u64);
+    let second_r = RValue::new(r[j] as u64);
     order_by(
         id[i] == id[j],
         is_subgroup(first_l, first_r, second_l, second_r),

@@ -6,7 +6,7 @@ use Prim.Native.Nat.{ℕ, _+_, _≤_}
 use native.Mathlib.Omega.{arith}
 use Rattle.request.specs.Entries.{Entry, oneAt, quotaAt, quota, total, times, quotaOf, before, Same}
 use Rattle.request.specs.Request.{Request, entries, leftOf, rightOf}
-use Rattle.boxes.proofs.Ranges.{Clear}
+use Rattle.rules.proofs.Ranges.{Clear}
 use Rattle.request.proofs.Sums.{before-within, positive-quota, apart}
 use Rattle.request.proofs.Trees.{same-left, same-right}
 use Rattle.request.proofs.ReadLaws.{ReadRequest}

@@ -15,7 +15,8 @@ use Rattle.request.specs.Forest.{Forest, Direction, preL, left, right, treeOrde
 use Rattle.request.specs.Request.{Request, entries, leftOf, rightOf}
 use Rattle.request.specs.Reading.{requestOf}
 use Rattle.request.specs.Acceptance.{accepted}
-use Rattle.boxes.proofs.Ranges.{Clear, clear-apart}
+use Rattle.rules.proofs.Ranges.{Clear}
+use Rattle.boxes.proofs.Ranges.{clear-apart}
 use Rattle.request.proofs.Sums.{noLater, later-iff, sum-at, own-quotas}
 use Rattle.request.proofs.Trees
 use Rattle.request.proofs.ReadLaws.{request-read}

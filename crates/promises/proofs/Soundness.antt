@@ -8,7 +8,8 @@ use borrow.Author.Tests.{not-false}
 use Rattle.rules.specs.Answers.{answer}
 use Rattle.rules.proofs.Bools.{or-none}
 use Rattle.boxes.specs.Boxes.{apart}
-use Rattle.boxes.proofs.Ranges.{Clear, apart-clear, clear-apart}
+use Rattle.rules.proofs.Ranges.{Clear}
+use Rattle.boxes.proofs.Ranges.{apart-clear, clear-apart}
 use Rattle.request.specs.Entries.{times, Distinct}
 use Rattle.table.specs.Columns.{Row, lowL, lowR, sizeOf}
 use Rattle.table.specs.Check.{valueBad, rangesMeet, soundRows}

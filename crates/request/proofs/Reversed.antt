@@ -7,9 +7,10 @@ use Prim.Native.Nat.{ℕ, _+_, _≤_}
 use native.Mathlib.Omega.{arith}
 use lib.Dec.{eqb}
 use Rattle.rules.proofs.Cases.{by-eq}
+use Rattle.rules.proofs.Ranges.{Clear}
 use Rattle.request.specs.Entries.{Entry, pick, quota, oneAt, total, times, quotaOf, before, Same, Positive}
 use Rattle.request.specs.Forest.{Forest, none, tree, preL, preR, postL, postR}
-use Rattle.request.proofs.Sums.{sum-append, before-left, before-right, before-here, quota-none, positive-quota, Clear, apart}
+use Rattle.request.proofs.Sums.{sum-append, before-left, before-right, before-here, quota-none, positive-quota, apart}
 
 pub postL-reverse : (t : Forest) → postL t ≡ reverse (preR t)
 postL-reverse none = refl

@@ -2,13 +2,13 @@
 use mathlib.Core.Path.{_≡_, refl, sym, _∙_}
 use mathlib.Core.Bool.{Bool, true, false, _&&_, and-false, and-comm}
 use mathlib.Core.List.{List, [], _∷_, _++_}
-use mathlib.Core.Logic.{_≢_, _⊎_, inl, inr, _↔_}
+use mathlib.Core.Logic.{_≢_, inl, inr, _↔_}
 use Prim.Native.Nat.{ℕ, zero, suc, _+_, _≤_, _<_}
 use native.Mathlib.Omega.{arith}
 use lib.Dec.{eqb, leb}
 use lib.ListN.{length}
 use borrow.Author.Tests.{eqb-true, eq-eqb, le-leb, lt-leb}
-use Rattle.rules.proofs.Cases.{by-lt}
+use Rattle.rules.proofs.Ranges.{Clear, le-same}
 use Rattle.request.specs.Entries.{Entry, pick, quota, sum, total, times, quotaOf, before, Same, Distinct, Positive}
 
 pub sum-append : (f : Entry → ℕ) (s t : List Entry) → sum f (s ++ t) ≡ sum f s + sum f t
@@ -100,10 +100,6 @@ own-quotas (e ∷ s) d =
         go true h = absurd (omega arith)
         go false h = omega arith
 
--- one range ends before the other begins
-abbrev pub Clear : (a q b p : ℕ) → Type 0
-Clear a q b p = (a + q ≤ b) ⊎ (b + p ≤ a)
-
 apart-step : (s t : Bool) → (s ≡ true → t ≡ true → ⊥) → (q cx bx qx cy by qy : ℕ) → (cx ≡ 0 → qx ≡ 0) → (cy ≡ 0 → qy ≡ 0)
     → (cx ≡ 1 → cy ≡ 1 → Clear bx qx by qy) → pick s 1 0 + cx ≡ 1 → pick t 1 0 + cy ≡ 1
     → Clear (pick s 0 (q + bx)) (pick s q 0 + qx) (pick t 0 (q + by)) (pick t q 0 + qy)
@@ -124,13 +120,6 @@ apart x y (e ∷ s) n h k =
     (quota e) (times x s) (before x s) (quotaOf x s) (times y s) (before y s) (quotaOf y s)
     (quota-none x s) (quota-none y s) (apart x y s n) h k
 
--- two tests that say the same
-leb-iff : (a b c d : ℕ) → (a ≤ b → c ≤ d) → (c ≤ d → a ≤ b) → leb a b ≡ leb c d
-leb-iff a b c d f g =
-    by-lt b a
-    (λ h. lt-leb a b h ∙ sym (lt-leb c d (by-lt d c (λ k. k) (λ k. absurd (omega (arith, g k))))))
-    (λ h. le-leb a b h ∙ sym (le-leb c d (f h)))
-
 -- l and r stand no later than k and s
 unfoldable pub noLater : (l r k s : ℕ) → Bool
 noLater l r k s = leb l k && leb r s
@@ -149,7 +138,7 @@ later-r l r k s h = rw (lt-leb _ _ h) (and-false (leb l k))
 
 pub later-iff : (l r k s l' r' k' s' : ℕ) → l ≤ k ↔ l' ≤ k' → r ≤ s ↔ r' ≤ s' → noLater l r k s ≡ noLater l' r' k' s'
 unfolding noLater
-later-iff l r k s l' r' k' s' f g = rw (leb-iff l k l' k' (f .0) (f .1), leb-iff r s r' s' (g .0) (g .1))
+later-iff l r k s l' r' k' s' f g = rw (le-same {a = l} {b = k} {c = l'} {d = k'} (f .0) (f .1), le-same {a = r} {b = s} {c = r'} {d = s'} (g .0) (g .1))
 
 pub later-swap : (l r k s : ℕ) → noLater l r k s ≡ noLater r l s k
 unfolding noLater

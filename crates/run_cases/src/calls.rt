@@ -83,8 +83,8 @@ pub fn put(buffer: &mut [u8], n: usize, value: u64) -> usize {
 // l, r and the quota of a box.
 fn area(line: &[u8], l: usize, r: usize, quota: usize) -> Box {
     Box {
-        l: LValue(given(line, l)),
-        r: RValue(given(line, r)),
+        l: LValue::new(given(line, l)),
+        r: RValue::new(given(line, r)),
         quota: given(line, quota),
     }
 }
@@ -101,9 +101,24 @@ pub fn disjoint(line: &[u8]) {
     flag(area(line, 0, 1, 2).disjoint(area(line, 3, 4, 5)));
 }
 
+// l and r of a box are found by comparisons, from the highest bit down: no call answers the number of a coordinate.
 fn show_box(b: Box) {
-    show::number(b' ', b.l.0);
-    show::number(b' ', b.r.0);
+    let mut l = 0;
+    let mut r = 0;
+    let mut bit: u64 = 9223372036854775808;
+    while 0 < bit {
+        let next_l = std::num::wrapping_add_u64(l, bit);
+        if LValue::new(next_l).at_most(b.l) {
+            l = next_l;
+        }
+        let next_r = std::num::wrapping_add_u64(r, bit);
+        if RValue::new(next_r).at_most(b.r) {
+            r = next_r;
+        }
+        bit /= 2;
+    }
+    show::number(b' ', l);
+    show::number(b' ', r);
     show::number(b' ', b.quota);
 }
 

@@ -36,28 +36,30 @@ decide-spec =
     let i = a .before .before .loop in
     let e = sym (a .grant-at .ensures) ∙ ap grantSays (c .before .why .given .1) in
     sym (outcome-refused _ _ _ _ _ (i .at) (i .t) (a .before .loop-test .taken) e) ∙ i .inv .1)
-    (λ c. search needs) (λ c κs. search needs) (λ c κs. search needs)
+    (λ c. search needs) (λ c κs. search needs) (λ c κs. search needs) (λ c κs. search needs) (λ c κs. search needs)
     (λ c.
-    let g = c .before .before .before .before in
+    let g : tie.After-g Inv-loop μ-loop = search in
     let s = grant-stands _ _ (sym (g .before .before .grant-at .ensures) ∙ ap grantSays (g .g .given .1)) in
     omega (arith, s .starts, s .ends))
     (λ c.
-    let g = c .before .before .before .before in
+    let g : tie.After-g Inv-loop μ-loop = search in
+    let p : tie.After-applies Inv-loop μ-loop = search in
     let a = g .before .before in
     let i = a .before .before .loop in
     let e = sym (a .grant-at .ensures) ∙ ap grantSays (g .g .given .1) in
-    let y = sym (c .before .before .applies .ensures) ∙ c .before .if2 .taken in
+    let y = sym (rw (p .before .before .new .ensures, p .before .new2 .ensures) at (p .applies .ensures)) ∙ c .before .if2 .taken in
     (grant-stands _ _ e .ends, rw (c .count-in .ensures) (sym (outcome-applies _ _ _ _ _ (i .at) (i .t) (a .before .loop-test .taken) e y) ∙ i .inv .1)))
     (λ c.
-    let g = c .before .before .before in
+    let g : tie.After-g Inv-loop μ-loop = search in
     let s = grant-stands _ _ (sym (g .before .before .grant-at .ensures) ∙ ap grantSays (g .g .given .1)) in
     omega (arith, s .starts, s .ends))
     (λ c.
-    let g = c .before .before .before in
+    let g : tie.After-g Inv-loop μ-loop = search in
+    let p : tie.After-applies Inv-loop μ-loop = search in
     let a = g .before .before in
     let i = a .before .before .loop in
     let e = sym (a .grant-at .ensures) ∙ ap grantSays (g .g .given .1) in
-    let n = sym (c .before .applies .ensures) ∙ c .if2 .left in
+    let n = sym (rw (p .before .before .new .ensures, p .before .new2 .ensures) at (p .applies .ensures)) ∙ c .if2 .left in
     (grant-stands _ _ e .ends, sym (outcome-other _ _ _ _ _ (i .at) (i .t) (a .before .loop-test .taken) e n) ∙ i .inv .1))
     (λ c κs. search needs)
     (λ c. let i = c .before .before .loop in c .decision-of .ensures ∙ sym (outcome-ends _ _ _ _ _ (i .at) (i .t) (c .before .loop-test .left)) ∙ i .inv .1))

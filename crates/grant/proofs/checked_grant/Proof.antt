@@ -12,4 +12,5 @@ checked-grant-spec =
     (tie.spec
     (λ c κs. search needs)
     (λ c. rw (sym (c .before .grant-bad .ensures) ∙ c .if1 .taken))
-    (λ c. rw (sym (c .before .grant-bad .ensures) ∙ c .if1 .left)))
+    (λ c κs. search needs) (λ c κs. search needs)
+    (λ c. let e : tie.Else1 = search in rw (sym (e .before .grant-bad .ensures) ∙ e .if1 .left, c .before .new .ensures, c .new2 .ensures)))

@@ -1,24 +1,25 @@
 -- `numbering::trees::number_trees` meets its contract: a cycle of one, whose measure is the number of entries. The loop's invariant: what
 -- is left to number makes the whole.
 use mathlib.Core.Path.{_≡_, refl, ap₂, _∙_}
-use mathlib.Core.List.{[]}
-use Prim.Native.Nat.{ℕ, _+_, _-_, _<_}
+use mathlib.Core.List.{List, []}
+use Prim.Native.Nat.{ℕ, _+_, _-_, _≤_, _<_}
 use native.Mathlib.Omega.{arith}
-use lib.ListN.{length, getD, set, take, drop, length-set}
+use lib.ListN.{length, getD}
 use borrow.Author.Needs.{needs}
 use borrow.Fn.Kinds.{In}
 use borrow.Fn.PlainCycle.{Measures, is, falls, and}
 use denote.Ref.{now}
-use Rattle.rules.specs.Limits.{greatest}
 use Rattle.boxes.specs.declared.Box.{Box}
 use Rattle.boxes.proofs.Box.next_child.Reads as next-child-reads
+use Rattle.boxes.proofs.Box.corner.Reads as corner-reads
+use Rattle.boxes.proofs.LValue.write.Reads as write-l-reads
+use Rattle.boxes.proofs.RValue.write.Reads as write-r-reads
+use Rattle.boxes.specs.Boxes.{cornerOf, innerOf}
 use Rattle.request.specs.Numbering.{lefts, rights, whole}
 use Rattle.reading.specs.Work.{work}
 use Rattle.reading.specs.inside.Work.{directionBy}
 use Rattle.numbering.specs.inside.Boxed.{forestIn}
-use Rattle.numbering.proofs.NumberingLaws.{Numbers, Here, childOf, begins, here, done, never, child-is, left-is, corner-asks, corner-fits, part-length, boxed-in, moves, children-back}
-use Rattle.numbering.proofs.trees.corner.Reads as corner-reads
-use Rattle.numbering.proofs.trees.inner.Reads as inner-reads
+use Rattle.numbering.proofs.NumberingLaws.{Numbers, Here, childOf, begins, here, done, never, child-is, left-is, corner-there, place-is, inner-is, part-length, boxed-in, moves, children-back}
 use Rattle.numbering.proofs.trees.number_trees.Reads as number-trees
 use Rattle.numbering.proofs.trees.number_trees.Kinds as kinds
 use Rattle.numbering.proofs.trees.+number_trees.Lts-number_trees as lts
@@ -36,7 +37,18 @@ below t = and 5 kinds.ps (falls 5 kinds.ps _<_ μ t) number-trees.Pre
 
 -- what is asked and learnt at each call, at the measure t
 abbrev claims : ℕ → lts.Claims
-claims t = (next-child-reads.Asked, next-child-reads.Learnt, corner-reads.Asked, corner-reads.Learnt, inner-reads.Asked, inner-reads.Learnt, below t, number-trees.Post)
+claims t = (
+  next-child-reads.Asked,
+  next-child-reads.Learnt,
+  corner-reads.Asked,
+  corner-reads.Learnt,
+  write-l-reads.Asked,
+  write-l-reads.Learnt,
+  write-r-reads.Asked,
+  write-r-reads.Learnt,
+  below t,
+  number-trees.Post,
+)
 
 abbrev Inv-loop : lts.InvT-loop
 Inv-loop quotas ends sums from to upright l₀ r₀ p₀ rest₀ l r p rest =
@@ -46,7 +58,7 @@ Inv-loop quotas ends sums from to upright l₀ r₀ p₀ rest₀ l r p rest =
 abbrev μ-loop : lts.MeasureT-loop
 μ-loop quotas ends sums from to upright l₀ r₀ p₀ rest₀ l r p rest = to - p
 
--- the places: the start, a round of the loop, its child's box, the corner, the inner box
+-- the places: the start, a round of the loop, its child's box, the child's corner, the corner written to the columns, the children numbered
 abbrev Start : ℕ → Type 0
 Start t = lts.Start (claims t) (here-at t) number-trees.Post Inv-loop μ-loop
 
@@ -57,10 +69,10 @@ abbrev Child : ℕ → Type 0
 Child t = lts.After-known-told (claims t) (here-at t) number-trees.Post Inv-loop μ-loop
 
 abbrev Corner : ℕ → Type 0
-Corner t = lts.After-corner (claims t) (here-at t) number-trees.Post Inv-loop μ-loop
+Corner t = lts.After-known-told2 (claims t) (here-at t) number-trees.Post Inv-loop μ-loop
 
-abbrev Inner : ℕ → Type 0
-Inner t = lts.After-inner (claims t) (here-at t) number-trees.Post Inv-loop μ-loop
+abbrev Written : ℕ → Type 0
+Written t = lts.After-write2 (claims t) (here-at t) number-trees.Post Inv-loop μ-loop
 
 abbrev Filled : ℕ → Type 0
 Filled t = lts.After-number-trees (claims t) (here-at t) number-trees.Post Inv-loop μ-loop
@@ -90,36 +102,57 @@ child-at : (t : ℕ) (c : Child t)
     c .before .child .given .0 .0 ≡ childOf (s .rest .l .0) (s .rest .r .0) (s .rest .quota) (getD (now (start (round c) .args .quotas)) (s .p) 0 + whole (first t (round c) .children))
 child-at t c = let h = first t (round c) in child-is h (c .before .before .before .next-child .ensures) (h .sum-is) (c .before .child .given .1)
 
--- the root's place fits 32 bits
-place-fits : (t : ℕ) (c : Corner t) → (c .corner .result .l .0 < greatest + 1) × (c .corner .result .r .0 < greatest + 1)
-place-fits t c = let k : Child t = search in rw (c .corner .ensures) (corner-fits (first t (round k)) _ (child-at t k))
+-- its root's place, and the box that its children share
+abbrev child : {t : ℕ} → Corner t → Child t
+child c = c .before .before .before .before
 
--- the parts of the work columns that are lent to the children
-parts-at : (t : ℕ) (c : Corner t)
-    → let k : Child t = c .before in
-    let o = round k .before .loop in
-    let a = start (round k) .args in
-    let end = getD (now (a .ends)) (o .p) 0 in
-    (length (take (end - a .from - (o .p - a .from + 1)) (drop (o .p - a .from + 1) (set (o .l) (o .p - a .from) (c .corner .result .l .0)))) ≡ end - (o .p + 1))
-    × (length (take (end - a .from - (o .p - a .from + 1)) (drop (o .p - a .from + 1) (set (o .r) (o .p - a .from) (c .corner .result .r .0)))) ≡ end - (o .p + 1))
-parts-at t c =
-    let h = first t (round (c .before)) in
-    let o = round (c .before) .before .loop in
-    let s = start (round (c .before)) .args in
-    let end = getD (now (s .ends)) (o .p) 0 in
-    let b = h .behind in
-    let e = h .end-is in
-    let a = h .ends-at in
-    let nl = h .l-length in
-    let nr = h .r-length in
-    (part-length (o .l) (o .p) (s .from) end _ b (omega arith) (omega arith), part-length (o .r) (o .p) (s .from) end _ b (omega arith) (omega arith))
+abbrev own : {t : ℕ} → Corner t → ℕ
+own c = getD (now (start (round (child c)) .args .quotas)) (round (child c) .before .loop .p) 0
+
+dead-corner : (t : ℕ) (c : lts.After-enum-told2 (claims t) (here-at t) number-trees.Post Inv-loop μ-loop) → ⊥
+dead-corner t c =
+    let k : Child t = c .before .before .before in
+    corner-there (first t (round k)) _ (child-at t k) (c .before .before .corner .ensures) (c .enum-told2 .given .1)
+
+place-at : (t : ℕ) (c : Corner t) → c .before .place .given .0 .0 ≡ cornerOf (start (round (child c)) .args .upright) (child c .before .child .given .0 .0) (own c)
+place-at t c = place-is (first t (round (child c))) _ (child-at t (child c)) (c .before .before .before .corner .ensures) (c .before .place .given .1)
+
+inner-at : (t : ℕ) (c : Corner t) → c .before .place .given .0 .1 .0 ≡ innerOf (start (round (child c)) .args .upright) (child c .before .child .given .0 .0) (own c)
+inner-at t c = inner-is (first t (round (child c))) _ (child-at t (child c)) (c .before .before .before .corner .ensures) (c .before .place .given .1)
+
+-- the columns with its root's place written
+abbrev wrote : {t : ℕ} → Written t → lts.After-write (claims t) (here-at t) number-trees.Post Inv-loop μ-loop
+wrote c = c .before .before .before .before
+
+abbrev corner : {t : ℕ} → Written t → Corner t
+corner c = wrote c .before .before
+
+abbrev l-written : {t : ℕ} → Written t → List ℕ
+l-written c = wrote c .write .last .1 .0
+
+abbrev r-written : {t : ℕ} → Written t → List ℕ
+r-written c = c .write2 .last .1 .0
+
+-- where the tree stands among the entries
+bounds : (t : ℕ) (c : Child t)
+    → let a = start (round c) .args in
+    let p = round c .before .loop .p in
+    let end = getD (now (a .ends)) p 0 in (a .from ≤ p) × ((p < end) × (end ≤ a .to))
+bounds t c = let h = first t (round c) in (h .behind, (omega (arith, h .end-is), omega (arith, h .end-is, h .ends-at)))
+
+-- the parts of the columns that are lent to the children
+abbrev tree : {t : ℕ} → Written t → Child t
+tree c = child (corner c)
+
+lengths : (t : ℕ) (c : Written t) → let a = start (round (tree c)) .args in (length (l-written c) ≡ a .to - a .from) × (length (r-written c) ≡ a .to - a .from)
+lengths t c = let h = first t (round (tree c)) in (wrote c .write .kept .1 .0 ∙ h .l-length, c .write2 .kept .1 .0 ∙ h .r-length)
 
 pub +number-trees-spec : {M : Type 1} → statement M
 +number-trees-spec =
     close μ
     λ t.
     lts.spec (claims t) (here-at t) number-trees.Post Inv-loop μ-loop
-    (λ c. let s : Start t = search in begins (s .pre .1 .1))
+    (λ c. begins (c .before .before .before .before .before .pre .1 .1))
     (λ c. omega arith)
     (λ c. omega arith)
     (λ c. omega arith)
@@ -133,49 +166,54 @@ pub +number-trees-spec : {M : Type 1} → statement M
     (λ c. absurd (dead t c))
     (λ c. absurd (dead t c))
     (λ c. search needs)
-    (λ c. let k : Child t = search in let h = first t (round k) in let b = h .behind in omega arith)
-    (λ c. let k : Child t = search in let h = first t (round k) in let b = h .behind in let e = h .end-is in omega arith)
-    (λ c. let k : Child t = search in let h = first t (round k) in let b = h .behind in let a = h .ends-at in omega (arith, start (round k)))
-    (λ c κs. let k : Child t = search in corner-asks (first t (round k)) _ (child-at t k))
-    (λ c. let p : Corner t = search in record { fits = place-fits t p .0 })
-    (λ c. let k : Child t = search in let h = first t (round k) in let b = h .behind in omega (arith, start (round k)))
-    (λ c. let k : Child t = search in let h = first t (round k) in let b = h .behind in let n = h .l-length in omega arith)
-    (λ c. let p : Corner t = search in record { fits = place-fits t p .1 })
-    (λ c. let k : Child t = search in let h = first t (round k) in let b = h .behind in omega (arith, start (round k)))
-    (λ c. let k : Child t = search in let h = first t (round k) in let b = h .behind in let n = h .r-length in omega arith)
-    (λ c. let k : Child t = search in let h = first t (round k) in let b = h .behind in let e = h .end-is in let a = h .ends-at in omega (arith, start (round k)))
-    (λ c κs. let k : Child t = search in corner-asks (first t (round k)) _ (child-at t k))
-    (λ c. let k : Child t = search in let h = first t (round k) in let b = h .behind in let e = h .end-is in let a = h .ends-at in omega (arith, start (round k)))
-    (λ c. let k : Child t = search in let h = first t (round k) in let b = h .behind in let e = h .end-is in let a = h .ends-at in let n = h .l-length in omega arith)
-    (λ c. let k : Child t = search in let h = first t (round k) in let b = h .behind in let e = h .end-is in let a = h .ends-at in omega arith)
-    (λ c. let k : Child t = search in let h = first t (round k) in let b = h .behind in let e = h .end-is in let a = h .ends-at in let n = h .l-length in simp length-set (omega arith))
-    (λ c. let k : Child t = search in let h = first t (round k) in let b = h .behind in let e = h .end-is in let a = h .ends-at in omega (arith, start (round k)))
-    (λ c. let k : Child t = search in let h = first t (round k) in let b = h .behind in let e = h .end-is in let a = h .ends-at in let n = h .r-length in omega arith)
-    (λ c. let k : Child t = search in let h = first t (round k) in let b = h .behind in let e = h .end-is in let a = h .ends-at in omega arith)
-    (λ c. let k : Child t = search in let h = first t (round k) in let b = h .behind in let e = h .end-is in let a = h .ends-at in let n = h .r-length in simp length-set (omega arith))
+    (λ c κs. tt)
+    (λ c. search needs)
+    (λ c. absurd (dead-corner t c))
+    (λ c. absurd (dead-corner t c))
+    (λ c. absurd (dead-corner t c))
+    (λ c. search needs)
+    (λ c. omega (arith, bounds t (child c)))
+    (λ c. omega (arith, bounds t (child c)))
+    (λ c. omega (arith, bounds t (child c), start (round (child c)) .fits))
+    (λ c κs. tt)
+    (λ c κs. tt)
+    (λ c. omega (arith, bounds t (tree (c .before .before)), start (round (tree (c .before .before))) .fits))
+    (λ c. omega (arith, bounds t (tree (c .before .before)), start (round (tree (c .before .before)))))
+    (λ c. omega (arith, bounds t (tree (c .before .before))))
+    (λ c. omega (arith, bounds t (tree (c .before .before))))
+    (λ c. omega (arith, bounds t (tree (c .before .before)), lengths t (c .before .before) .0))
+    (λ c. omega (arith, bounds t (tree (c .before .before .before)), start (round (tree (c .before .before .before)))))
+    (λ c. omega (arith, bounds t (tree (c .before .before .before))))
+    (λ c. omega (arith, bounds t (tree (c .before .before .before))))
+    (λ c. omega (arith, bounds t (tree (c .before .before .before)), lengths t (c .before .before .before) .1))
     (λ c κs.
-    let k : Child t = search in
+    let w : Written t = c .before .before .before .before in
+    let k : Child t = tree w in
     let s = start (round k) in
     let h = first t (round k) in
-    let p : Corner t = search in
-    let x : Inner t = search in
-    let parts = parts-at t p in (
-      omega (arith, s .pre .0, h .behind, h .end-is, h .ends-at),
-      (omega (arith, s .pre .1 .0, h .end-is, h .ends-at), boxed-in h _ _ _ _ _ (h .end-is) (child-at t k) (x .inner .ensures) (parts .0) (parts .1)),
+    let n = lengths t w in
+    let b = bounds t k in (
+      omega (arith, s .pre .0, b),
+      (
+        omega (arith, s .pre .1 .0, b),
+        boxed-in h _ _ _ _ _ (h .end-is) (child-at t k) (inner-at t (corner w)) (part-length _ _ (s .args .from) _ (b .0) (b .1 .0) (omega (arith, b, n)))
+            (part-length _ _ (s .args .from) _ (b .0) (b .1 .0) (omega (arith, b, n))),
+      ),
     ))
-    (λ c. let k : Child t = search in let h = first t (round k) in let b = h .behind in let e = h .end-is in let a = h .ends-at in omega arith)
+    (λ c. omega (arith, bounds t (tree (c .before .before .before .before .before .before .before .before .before))))
     (λ c.
     let y : Filled t = c .before .before .before .before in
-    let x : Inner t = y .before .before .before in
-    let p : Corner t = x .before .before .before in
-    let k : Child t = p .before in
+    let w : Written t = y .before .before .before .before .before in
+    let p : Corner t = corner w in
+    let k : Child t = child p in
     let s = start (round k) in
     let h = first t (round k) in
     let up = directionBy (s .args .upright) in
     let back = children-back h _ (h .end-is) in
-    moves h _ _ _ _ _ _ _ _ _ refl refl refl (h .end-is) (child-at t k) (left-is h (k .before .before .before .next-child .ensures) (h .sum-is) (k .before .child .given .1)) (p .corner .ensures)
-    (y .number-trees .ensures .0 ∙ ap₂ (λ (z : Box) f. lefts up (z .l .0) f) (x .inner .ensures) back)
-    (y .number-trees .ensures .1 ∙ ap₂ (λ (z : Box) f. rights up (z .r .0) f) (x .inner .ensures) back))
+    moves h _ _ _ _ _ _ _ _ _ _ _ refl refl refl (h .end-is) (child-at t k) (left-is h (k .before .before .before .next-child .ensures) (h .sum-is) (k .before .child .given .1)) (place-at t p)
+    (wrote w .write .ensures) (w .write2 .ensures)
+    (y .number-trees .ensures .0 ∙ ap₂ (λ (z : Box) f. lefts up (z .l .0) f) (inner-at t p) back)
+    (y .number-trees .ensures .1 ∙ ap₂ (λ (z : Box) f. rights up (z .r .0) f) (inner-at t p) back))
     (λ c. let n = c .before .loop .inv in let b = c .before .before .before .before .before .before .before .pre .1 .1 in omega (arith, n .l-length, b .l-part, b .ends-at))
     (λ c. let n = c .before .loop .inv in let b = c .before .before .before .before .before .before .before .pre .1 .1 in omega (arith, n .r-length, b .r-part, b .ends-at))
     (λ c. done (c .before .loop .inv) (c .loop-test .left))
