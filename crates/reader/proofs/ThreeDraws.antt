@@ -1,10 +1,10 @@
 -- A walk of the MIR of `three_at` and `head_at`: one reader is drawn from, set to the place after, and drawn from again, three times in all.
-use Rattle.reader.proofs.Held.{_≡_, refl, ap, _∙_, ℕ, _<_, _^_, List, [], _∷_, length, URA, named, erased, w64, Val, vint, SProp, ent, emp, via, fst∗, id⊢, Lft, Share, Fml, Memory, Routine}
-use Rattle.reader.proofs.Held.{Heap, Calls, Loops, WpFn, Tables, Atoms, Fun, Given, Item, ‵, raw, _⊛_, ⋆, _$_, _∵_, !, qed, by, move, drop, use0, use1, split, fsplit, fjoin, suffices}
-use Rattle.reader.proofs.Held.{frame, done, look, init, forget, stop, from, load, of-opd, and-then, no-more, assigns, land, returns, enter, alloc1, alloc0, params1, pass1, pass0, free1}
-use Rattle.reader.proofs.Held.{free0, FmC, fmOf, owns, Is, uint-vals, uint-tells, uint-makes, uint-lawful, u8, usize, RefT, NamedLft, now, plain, sliceTy, sliceVal, ShrSlice, slice-vals}
-use Rattle.reader.proofs.Held.{shr-slice-tells, shr-slice-lawful, shr-slice-copy, owned, nothing, Contract, Triple, Vals, alive, onEntry, tripleOf, says, Stays, stay-none, stay-none-slice}
-use Rattle.reader.proofs.Held.{walkOf, goes-none, goes-none-slice, ends-at, yes, row, copied, calls, meets}
+use Rattle.reader.proofs.Held.{_≡_, refl, ap, _∙_, ℕ, _<_, _^_, List, [], _∷_, Holds, length, URA, named, erased, w64, Val, WT, hasTy, vint, SProp, ent, emp, via, fst∗, id⊢, Lft, Share}
+use Rattle.reader.proofs.Held.{Fml, Memory, Routine, Heap, Calls, Loops, WpFn, Tables, Atoms, Fun, Given, Item, ‵, raw, _⊛_, ⋆, _$_, _∵_, !, qed, by, move, drop, use0, use1, split, fsplit}
+use Rattle.reader.proofs.Held.{fjoin, suffices, frame, done, look, init, forget, stop, from, load, of-opd, and-then, no-more, assigns, land, returns, enter, alloc1, alloc0, params1, pass1}
+use Rattle.reader.proofs.Held.{pass0, free1, free0, FmC, fmOf, owns, Is, uint-vals, uint-tells, uint-makes, uint-lawful, u8, usize, RefT, NamedLft, now, plain, sliceTy, sliceVal, ShrSlice}
+use Rattle.reader.proofs.Held.{slice-vals, shr-slice-tells, shr-slice-lawful, shr-slice-copy, owned, nothing, Contract, Triple, Vals, alive, onEntry, tripleOf, says, Stays, stay-none}
+use Rattle.reader.proofs.Held.{stay-none-slice, walkOf, goes-none, goes-none-slice, ends-at, yes, row, copied, calls, meets}
 use mir.Syntax.{imm, w8, Ty, tyInt, tyRef, Local, local, valueLocal, Place, place, Opd as Operand, copy, rvOpd, Body, seq, assign, call, return, Fn}
 use denote.Enum.Laws as EL
 use denote.Struct.Laws as LL
@@ -146,11 +146,18 @@ module _ {M : Type 1} (𝓤 : URA M) (H : Heap 𝓤) (A : Atoms 𝓤) (W : Given
   abbrev Token : Item 𝓤
   Token = raw (alive 𝓤 H A three-at.signature (κ, tt) (q, tt))
 
+  -- what is read and drawn has the type of its local
+  reader-fits : (r : Reader) (u : Val) → Is (row (κ, tt)) r (u ∷ []) → Holds (hasTy (T′.mir erased) u) × WT u
+  reader-fits r u is = LL.lawful (T.the-type αᵉ) (T′.the-laws αᵉ) 𝓤 H A W .typed r _ is .0
+
+  drawn-fits : (t : Drawn) (u : Val) → Is S.the-row t (u ∷ []) → Holds (hasTy S′.mir u) × WT u
+  drawn-fits t u is = EL.lawful S.the-type S′.the-laws 𝓤 H A W tt .typed t _ is .0
+
   exits : (z : Three) (u : Val) → threeSays z ≡ threeAt (now s) n → ent 𝓤 (⋆ 𝓤 H A (‵ (Z.the-row .own z (u ∷ [])) ∷ Token ∷ ‵ Own ∷ [])) (Post u)
   exits z u e =
       qed W (‵ (Z.the-row .own z (u ∷ [])) ∷ Token ∷ ‵ Own ∷ []) ∵
-      suffices ! _ (ends-at 𝓤 H A three-at.ended stayed (three-at.clauses 𝓤 H A mem run) W (((κ, tt), (q, tt), tt, (s, (n, tt)), at), tt) u z (tt, (tt, tt)) (tt, (tt, tt))) $ says ! e $
-      move ! (1 ∷ []) $ frame ! $ nothing ! $ owned ! usize (Is usize) (uint-makes 𝓤 H A W w64) n _ (refl, ok) $ fjoin ! $ move ! (2 ∷ 0 ∷ []) $ fjoin ! $ frame ! $ done !
+      suffices ! _ (ends-at 𝓤 H A three-at.ended stayed (three-at.clauses 𝓤 H A mem run) W (((κ, tt), (q, tt), tt, (s, (n, tt)), at), tt) u z (tt, (tt, tt)) (tt, (tt, tt))) $
+      says ! e $ move ! (1 ∷ []) $ frame ! $ nothing ! $ owned ! usize (Is usize) (uint-makes 𝓤 H A W w64) n _ (refl, ok) $ fjoin ! $ move ! (2 ∷ 0 ∷ []) $ fjoin ! $ frame ! $ done !
 
   module _ (C : Calls 𝓤 H) (Λ : Loops 𝓤 H) (fm : FmC 𝓤 H (W .laws) C) (known-new : Triple 𝓤 (C #reader·new) (New 𝓤 H A mem run)) (known-draw : Triple 𝓤 (C #reader·draw) (Draw 𝓤 H A mem run))
       (known-after : Triple 𝓤 (C #reader·after) (After 𝓤 H A mem run)) (known-next-of : Triple 𝓤 (C #reader·next-of) (NextOf 𝓤 H A mem run))
@@ -158,23 +165,23 @@ module _ {M : Type 1} (𝓤 : URA M) (H : Heap 𝓤) (A : Atoms 𝓤) (W : Given
     walk : Is (ShrSlice (named 0) κ u8) s (v ∷ []) → ent 𝓤 (onEntry 𝓤 H A three-at.signature (κ, tt) (q, tt) (s, (n, tt)) at) (WpFn 𝓤 H C Λ drawing (v ∷ vint w64 n ∷ []) Post)
     walk p =
         qed W (Token ∷ ‵ (owns (ShrSlice (named 0) κ u8 ∷ usize ∷ []) (s, (n, tt)) at) ∷ []) ∵ enter ! C Λ drawing (v ∷ vint w64 n ∷ []) _ $
-        alloc1 ! (λ l0. alloc1 ! (λ l1. alloc1 ! (λ l2. alloc1 ! (λ l3. alloc1 ! (λ l4. alloc1 ! (λ l5. alloc1 ! (λ l6. alloc1 ! (λ l7. alloc1 ! (λ l8. alloc1 ! (λ l9. alloc1 ! (λ l10. alloc1 ! (λ l11.
-        alloc1 ! (λ l12. alloc1 ! (λ l13. alloc1 ! (λ l14. alloc0 ! $ params1 ! $ pass1 ! (init ! 26 refl (shr-slice-lawful 𝓤 H A W (named 0) κ u8 .typed s (v ∷ []) p .0)) $
+        alloc1 ! (λ l0. alloc1 ! (λ l1. alloc1 ! (λ l2. alloc1 ! (λ l3. alloc1 ! (λ l4. alloc1 ! (λ l5. alloc1 ! (λ l6. alloc1 ! (λ l7. alloc1 ! (λ l8. alloc1 ! (λ l9. alloc1 ! (λ l10.
+        alloc1 ! (λ l11. alloc1 ! (λ l12. alloc1 ! (λ l13. alloc1 ! (λ l14. alloc0 ! $ params1 ! $ pass1 ! (init ! 26 refl (shr-slice-lawful 𝓤 H A W (named 0) κ u8 .typed s (v ∷ []) p .0)) $
         pass1 ! (init ! 24 refl (tt, record { fits = ok })) $ pass0 ! $
         -- _3 = new(_1, _2), _9 = _3
         move ! (31 ∷ []) $ fsplit ! $ use1 W (‵ Own ⊛ ‵ Own) (shr-slice-copy 𝓤 H A W (named 0) κ u8 .twice s (v ∷ [])) $ split ! $ move ! (0 ∷ 2 ∷ []) $ fjoin ! $ move ! (32 ∷ 0 ∷ []) $
         calls ! fm new.ended (new.clauses 𝓤 H A mem run) known-new (((κ, tt), (q, tt), tt, (s, (n, tt)), at), tt) (id⊢ 𝓤 _) (New-said s n) (λ r ws. id⊢ 𝓤 _)
         (and-then ! (load ! (from ! (stop !)) (look ! 28 refl)) (and-then ! (load ! (from ! (stop !)) (look ! 26 refl)) (no-more !))) (λ u r e is.
-        land ! (from ! (stop !)) (init ! 25 refl (LL.lawful (T.the-type αᵉ) (T′.the-laws αᵉ) 𝓤 H A W .typed r _ is .0)) $
+        land ! (from ! (stop !)) (init ! 25 refl (reader-fits r u is)) $
         use1 W (‵ (row (κ, tt) .own r (u ∷ [])) ⊛ ‵ (row (κ, tt) .own r (u ∷ []))) (copied 𝓤 H A W (κ, tt) .twice r (u ∷ [])) $ split ! $
-        assigns ! (of-opd ! (load ! (from ! (stop !)) (look ! 26 refl))) (from ! (stop !)) (init ! 14 refl (LL.lawful (T.the-type αᵉ) (T′.the-laws αᵉ) 𝓤 H A W .typed r _ is .0)) $
+        assigns ! (of-opd ! (load ! (from ! (stop !)) (look ! 26 refl))) (from ! (stop !)) (init ! 14 refl (reader-fits r u is)) $
         -- _4 = draw(_9), _10 = _3
         nothing ! $ move ! (1 ∷ 0 ∷ []) $ fjoin ! $ move ! (2 ∷ 0 ∷ []) $
         calls ! fm draw.ended (draw.clauses 𝓤 H A mem run) known-draw (((κ, tt), (q, tt), tt, (r, tt), (u ∷ [], tt)), tt) (id⊢ 𝓤 _) (Draw-said r) (λ r ws. id⊢ 𝓤 _)
         (and-then ! (load ! (from ! (stop !)) (look ! 13 refl)) (no-more !)) (λ u₁ t e₁ is₁.
-        land ! (from ! (stop !)) (init ! 24 refl (EL.lawful S.the-type S′.the-laws 𝓤 H A W tt .typed t _ is₁ .0)) $
+        land ! (from ! (stop !)) (init ! 24 refl (drawn-fits t u₁ is₁)) $
         use1 W (‵ (S.the-row .own t (u₁ ∷ [])) ⊛ ‵ (S.the-row .own t (u₁ ∷ []))) (EL.copy S.the-type S′.the-copy 𝓤 H A W .twice t (u₁ ∷ [])) $ split ! $
-        assigns ! (of-opd ! (load ! (from ! (stop !)) (look ! 27 refl))) (from ! (stop !)) (init ! 13 refl (LL.lawful (T.the-type αᵉ) (T′.the-laws αᵉ) 𝓤 H A W .typed r _ is .0)) $
+        assigns ! (of-opd ! (load ! (from ! (stop !)) (look ! 27 refl))) (from ! (stop !)) (init ! 13 refl (reader-fits r u is)) $
         -- _11 = next_of(_4)
         nothing ! $ move ! (1 ∷ 0 ∷ []) $ fjoin ! $ use0 W (raw (emp 𝓤)) (id⊢ 𝓤 (emp 𝓤)) $
         calls ! fm next-of.ended (next-of.clauses 𝓤 H A mem run) known-next-of ((tt, tt, tt, (t, tt), (u₁ ∷ [], tt)), tt) (id⊢ 𝓤 _) (Next-said t) (λ r ws. id⊢ 𝓤 _)
@@ -184,16 +191,16 @@ module _ {M : Type 1} (𝓤 : URA M) (H : Heap 𝓤) (A : Atoms 𝓤) (W : Given
         nothing ! $ move ! (1 ∷ 0 ∷ []) $ fjoin ! $ move ! (3 ∷ 0 ∷ []) $ fjoin ! $ move ! (2 ∷ 0 ∷ []) $
         calls ! fm after.ended (after.clauses 𝓤 H A mem run) known-after (((κ, tt), (q, tt), tt, (r, (m, tt)), (u ∷ [], (u₂ ∷ [], tt))), tt) (id⊢ 𝓤 _) (After-said r m) (λ r ws. id⊢ 𝓤 _)
         (and-then ! (load ! (from ! (stop !)) (look ! 11 refl)) (and-then ! (load ! (from ! (stop !)) (look ! 9 refl)) (no-more !))) (λ u₃ p₁ e₃ is₃.
-        land ! (from ! (stop !)) (init ! 22 refl (LL.lawful (T.the-type αᵉ) (T′.the-laws αᵉ) 𝓤 H A W .typed p₁ _ is₃ .0)) $
+        land ! (from ! (stop !)) (init ! 22 refl (reader-fits p₁ u₃ is₃)) $
         use1 W (‵ (row (κ, tt) .own p₁ (u₃ ∷ [])) ⊛ ‵ (row (κ, tt) .own p₁ (u₃ ∷ []))) (copied 𝓤 H A W (κ, tt) .twice p₁ (u₃ ∷ [])) $ split ! $
-        assigns ! (of-opd ! (load ! (from ! (stop !)) (look ! 23 refl))) (from ! (stop !)) (init ! 9 refl (LL.lawful (T.the-type αᵉ) (T′.the-laws αᵉ) 𝓤 H A W .typed p₁ _ is₃ .0)) $
+        assigns ! (of-opd ! (load ! (from ! (stop !)) (look ! 23 refl))) (from ! (stop !)) (init ! 9 refl (reader-fits p₁ u₃ is₃)) $
         -- _6 = draw(_12), _13 = _5
         nothing ! $ move ! (1 ∷ 0 ∷ []) $ fjoin ! $ move ! (2 ∷ 0 ∷ []) $
         calls ! fm draw.ended (draw.clauses 𝓤 H A mem run) known-draw (((κ, tt), (q, tt), tt, (p₁, tt), (u₃ ∷ [], tt)), tt) (id⊢ 𝓤 _) (Draw-said p₁) (λ r ws. id⊢ 𝓤 _)
         (and-then ! (load ! (from ! (stop !)) (look ! 8 refl)) (no-more !)) (λ u₄ x e₄ is₄.
-        land ! (from ! (stop !)) (init ! 21 refl (EL.lawful S.the-type S′.the-laws 𝓤 H A W tt .typed x _ is₄ .0)) $
+        land ! (from ! (stop !)) (init ! 21 refl (drawn-fits x u₄ is₄)) $
         use1 W (‵ (S.the-row .own x (u₄ ∷ [])) ⊛ ‵ (S.the-row .own x (u₄ ∷ []))) (EL.copy S.the-type S′.the-copy 𝓤 H A W .twice x (u₄ ∷ [])) $ split ! $
-        assigns ! (of-opd ! (load ! (from ! (stop !)) (look ! 24 refl))) (from ! (stop !)) (init ! 8 refl (LL.lawful (T.the-type αᵉ) (T′.the-laws αᵉ) 𝓤 H A W .typed p₁ _ is₃ .0)) $
+        assigns ! (of-opd ! (load ! (from ! (stop !)) (look ! 24 refl))) (from ! (stop !)) (init ! 8 refl (reader-fits p₁ u₃ is₃)) $
         -- _11 = next_of(_6)
         nothing ! $ move ! (1 ∷ 0 ∷ []) $ fjoin ! $ use0 W (raw (emp 𝓤)) (id⊢ 𝓤 (emp 𝓤)) $
         calls ! fm next-of.ended (next-of.clauses 𝓤 H A mem run) known-next-of ((tt, tt, tt, (x, tt), (u₄ ∷ [], tt)), tt) (id⊢ 𝓤 _) (Next-said x) (λ r ws. id⊢ 𝓤 _)
@@ -203,20 +210,22 @@ module _ {M : Type 1} (𝓤 : URA M) (H : Heap 𝓤) (A : Atoms 𝓤) (W : Given
         nothing ! $ move ! (1 ∷ 0 ∷ []) $ fjoin ! $ move ! (3 ∷ 0 ∷ []) $ fjoin ! $ move ! (2 ∷ 0 ∷ []) $
         calls ! fm after.ended (after.clauses 𝓤 H A mem run) known-after (((κ, tt), (q, tt), tt, (p₁, (k, tt)), (u₃ ∷ [], (u₅ ∷ [], tt))), tt) (id⊢ 𝓤 _) (After-said p₁ k) (λ r ws. id⊢ 𝓤 _)
         (and-then ! (load ! (from ! (stop !)) (look ! 6 refl)) (and-then ! (load ! (from ! (stop !)) (look ! 10 refl)) (no-more !))) (λ u₆ p₂ e₆ is₆.
-        land ! (from ! (stop !)) (init ! 19 refl (LL.lawful (T.the-type αᵉ) (T′.the-laws αᵉ) 𝓤 H A W .typed p₂ _ is₆ .0)) $
-        assigns ! (of-opd ! (load ! (from ! (stop !)) (look ! 19 refl))) (from ! (stop !)) (init ! 5 refl (LL.lawful (T.the-type αᵉ) (T′.the-laws αᵉ) 𝓤 H A W .typed p₂ _ is₆ .0)) $
+        land ! (from ! (stop !)) (init ! 19 refl (reader-fits p₂ u₆ is₆)) $
+        assigns ! (of-opd ! (load ! (from ! (stop !)) (look ! 19 refl))) (from ! (stop !)) (init ! 5 refl (reader-fits p₂ u₆ is₆)) $
         -- _8 = draw(_14)
         nothing ! $ move ! (1 ∷ 0 ∷ []) $ fjoin ! $ move ! (1 ∷ 0 ∷ []) $
         calls ! fm draw.ended (draw.clauses 𝓤 H A mem run) known-draw (((κ, tt), (q, tt), tt, (p₂, tt), (u₆ ∷ [], tt)), tt) (id⊢ 𝓤 _) (Draw-said p₂) (λ r ws. id⊢ 𝓤 _)
         (and-then ! (load ! (from ! (stop !)) (look ! 4 refl)) (no-more !)) (λ u₇ y e₇ is₇.
-        land ! (from ! (stop !)) (init ! 17 refl (EL.lawful S.the-type S′.the-laws 𝓤 H A W tt .typed y _ is₇ .0)) $
+        land ! (from ! (stop !)) (init ! 17 refl (drawn-fits y u₇ is₇)) $
         -- _0 = threefold(_4, _6, _8)
         nothing ! $ move ! (1 ∷ 0 ∷ []) $ fjoin ! $ move ! (2 ∷ 0 ∷ []) $ fjoin ! $ move ! (2 ∷ 0 ∷ []) $ fjoin ! $ use0 W (raw (emp 𝓤)) (id⊢ 𝓤 (emp 𝓤)) $
-        calls ! fm threefold.ended (threefold.clauses 𝓤 H A mem run) known-threefold ((tt, tt, tt, (t, (x, (y, tt))), (u₁ ∷ [], (u₄ ∷ [], (u₇ ∷ [], tt)))), tt) (id⊢ 𝓤 _) (Three-said t x y) (λ r ws. id⊢ 𝓤 _)
-        (and-then ! (load ! (from ! (stop !)) (look ! 23 refl)) (and-then ! (load ! (from ! (stop !)) (look ! 19 refl)) (and-then ! (load ! (from ! (stop !)) (look ! 15 refl)) (no-more !)))) (λ u₈ z e₈ is₈. move ! (1 ∷ []) $ drop ! $
+        calls ! fm threefold.ended (threefold.clauses 𝓤 H A mem run) known-threefold ((tt, tt, tt, (t, (x, (y, tt))), (u₁ ∷ [], (u₄ ∷ [], (u₇ ∷ [], tt)))), tt)
+        (id⊢ 𝓤 _) (Three-said t x y) (λ r ws. id⊢ 𝓤 _)
+        (and-then ! (load ! (from ! (stop !)) (look ! 23 refl)) (and-then ! (load ! (from ! (stop !)) (look ! 19 refl)) (and-then ! (load ! (from ! (stop !)) (look ! 15 refl)) (no-more !))))
+        (λ u₈ z e₈ is₈. move ! (1 ∷ []) $ drop ! $
         land ! (from ! (stop !)) (init ! 31 refl (LL.lawful Z.the-type Z′.the-laws 𝓤 H A W .typed z _ is₈ .0)) $
-        returns ! (look ! 31 refl) $ forget ! 3 refl $ forget ! 5 refl $ forget ! 7 refl $ forget ! 9 refl $ forget ! 11 refl $ forget ! 13 refl $ forget ! 15 refl $ forget ! 17 refl $ forget ! 19 refl $
-        forget ! 21 refl $ forget ! 23 refl $ forget ! 25 refl $ forget ! 27 refl $ forget ! 29 refl $ forget ! 31 refl $
+        returns ! (look ! 31 refl) $ forget ! 3 refl $ forget ! 5 refl $ forget ! 7 refl $ forget ! 9 refl $ forget ! 11 refl $ forget ! 13 refl $ forget ! 15 refl $ forget ! 17 refl $
+        forget ! 19 refl $ forget ! 21 refl $ forget ! 23 refl $ forget ! 25 refl $ forget ! 27 refl $ forget ! 29 refl $ forget ! 31 refl $
         move ! (31 ∷ 32 ∷ []) $ free1 ! $ move ! (29 ∷ 30 ∷ []) $ free1 ! $ move ! (27 ∷ 28 ∷ []) $ free1 ! $ move ! (25 ∷ 26 ∷ []) $ free1 ! $ move ! (23 ∷ 24 ∷ []) $ free1 ! $
         move ! (21 ∷ 22 ∷ []) $ free1 ! $ move ! (19 ∷ 20 ∷ []) $ free1 ! $ move ! (17 ∷ 18 ∷ []) $ free1 ! $ move ! (15 ∷ 16 ∷ []) $ free1 ! $ move ! (13 ∷ 14 ∷ []) $ free1 ! $
         move ! (11 ∷ 12 ∷ []) $ free1 ! $ move ! (9 ∷ 10 ∷ []) $ free1 ! $ move ! (7 ∷ 8 ∷ []) $ free1 ! $ move ! (5 ∷ 6 ∷ []) $ free1 ! $ move ! (3 ∷ 4 ∷ []) $ free1 ! $ free0 ! $
