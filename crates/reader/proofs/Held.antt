@@ -1,6 +1,7 @@
 -- What the walks of this crate's functions share:
 --     the words that they are written in
 --     row, shape, laws    a `Reader`'s type in a signature, its fields' types, and their laws
+--     beside              what holds for nothing is had beside anything
 --     copied              it is Copy: what it owns is had twice
 --     calls               a call: the tokens and what the parameters own are passed; the result and the tokens come back, with what the callee's contract says of the result
 --     meets               a function meets its contract, by a walk of its MIR
@@ -39,7 +40,7 @@ pub use denote.Triple.Table.{entered, cited}
 pub use denote.Triple.Walked.{says, Stays, stay-none, stay-none-slice, walkOf, goes-none, goes-none-slice, ends-at}
 pub use denote.Exit.{yes}
 use mir.Syntax.{Name, Place, Opd as Operand, Body, Fn, seq, call}
-use base.Logic.{sep, exE, snd∗}
+use base.Logic.{sep, exE, snd∗, emp∗, comm∗, monoL}
 use prog.Wp.{Env}
 use ghost.Atoms.{sem}
 use types.Kit.{some, later, Post, runs, lands, Seq, use2, await, pick}
@@ -61,6 +62,9 @@ use denote.Triple.Spec.{Meets}
 use denote.Triple.Walked.{AllGo, walked, walk-meets}
 use Rattle.reader.proofs.Reader as T
 use Rattle.reader.proofs.Reader.Laws as T′
+
+pub beside : {M : Type 1} (𝓤 : URA M) (P Q : SProp 𝓤) → ent 𝓤 (emp 𝓤) Q → ent 𝓤 P (sep 𝓤 P Q)
+beside 𝓤 P Q h = via 𝓤 (sep 𝓤 (emp 𝓤) P) (emp∗ 𝓤 P) (via 𝓤 (sep 𝓤 Q P) (monoL 𝓤 P h) (comm∗ 𝓤 Q P))
 
 abbrev pub row : Lfts 1 → RattleType
 row κs = T.the-row (namedLft 1 0 tt κs)

@@ -4,10 +4,13 @@ use Rattle.reader.proofs.Held.{Fml, Memory, Routine, Heap, Calls, Loops
 use Rattle.reader.proofs.Held.{fjoin, suffices, frame, done, look, init, forget, stop, from, load, of-opd, and-then, no-more, assigns, land, returns, enter, alloc1, alloc0, params1, pass1}
 use Rattle.reader.proofs.Held.{pass0, free1, free0, FmC, fmOf, owns, Is, uint-vals, uint-tells, uint-makes, uint-lawful, u8, usize, RefT, NamedLft, now, plain, sliceTy, sliceVal, ShrSlice}
 use Rattle.reader.proofs.Held.{slice-vals, shr-slice-tells, shr-slice-lawful, shr-slice-copy, owned, nothing, Contract, Triple, Vals, alive, onEntry, tripleOf, says, Stays, stay-none}
-use Rattle.reader.proofs.Held.{stay-none-slice, walkOf, goes-none, goes-none-slice, ends-at, yes, row, copied, calls, meets}
+use Rattle.reader.proofs.Held.{stay-none-slice, walkOf, goes-none, goes-none-slice, ends-at, yes, beside, row, copied, calls, meets}
 use mir.Syntax.{imm, w8, Ty, tyInt, tyRef, Local, local, valueLocal, Place, place, Opd as Operand, copy, rvOpd, Body, seq, assign, call, return, Fn}
+use contract.Lifetimes.{Lfts}
 use denote.Enum.Laws as EL
 use denote.Struct.Laws as LL
+use denote.Triple.Clauses.{Clauses, AtExit, closing}
+use denote.Triple.Entry.{Args}
 use Rattle.number.specs.Number.{numberAt}
 use Rattle.number.specs.Says.{drawnSays}
 use Rattle.number.specs.declared.Drawn.{Drawn}
@@ -124,8 +127,13 @@ module _ {M : Type 1} (𝓤 : URA M) (H : Heap 𝓤) (A : Atoms 𝓤) (mem : Mem
   abbrev pub Threefold : Contract 𝓤
   Threefold = tripleOf 𝓤 H A threefold.signature (threefold.spec 𝓤 H A mem run)
 
-module _ {M : Type 1} (𝓤 : URA M) (H : Heap 𝓤) (A : Atoms 𝓤) (W : Given 𝓤 H A) (mem : Memory → SProp 𝓤) (run : Routine → Fun 𝓤) (κ : Lft) (q : Share) (s : RefT (List ℕ)) (n : ℕ)
-    (ok : n < 2 ^ 64) where
+-- a contract that says of the answer at most what the three numbers are
+abbrev pub Says-so : {M : Type 1} (𝓤 : URA M) (H : Heap 𝓤) (A : Atoms 𝓤) → Clauses 𝓤 three-at.ended → Type 1
+Says-so 𝓤 H A c = (κs : Lfts 1) (a : Args three-at.signature κs) (g : c κs a .ghost) (z : Three) (end : AtExit three-at.ended κs)
+    → threeSays z ≡ threeAt (now (a .0)) (a .1 .0) → ent 𝓤 (emp 𝓤) (c κs a .ensures g z end)
+
+module _ {M : Type 1} (𝓤 : URA M) (H : Heap 𝓤) (A : Atoms 𝓤) (W : Given 𝓤 H A) (mem : Memory → SProp 𝓤) (run : Routine → Fun 𝓤) (c : Clauses 𝓤 three-at.ended) (says-so : Says-so 𝓤 H A c)
+    (κ : Lft) (q : Share) (s : RefT (List ℕ)) (n : ℕ) (g : c (κ, tt) (s, (n, tt)) .ghost) (ok : n < 2 ^ 64) where
   -- the machine value that s has
   abbrev v : Val
   v = sliceVal (s .ptr) (length (s .now))
@@ -138,7 +146,7 @@ module _ {M : Type 1} (𝓤 : URA M) (H : Heap 𝓤) (A : Atoms 𝓤) (W : Given
   αᵉ = record { mir = erased; lft = κ }
 
   abbrev Post : Val → SProp 𝓤
-  Post = walkOf 𝓤 H A three-at.ended stayed (three-at.clauses 𝓤 H A mem run) .post (((κ, tt), (q, tt), tt, (s, (n, tt)), at), tt)
+  Post = walkOf 𝓤 H A three-at.ended stayed c .post (((κ, tt), (q, tt), tt, (s, (n, tt)), at), g)
 
   abbrev Own : Fml
   Own = ShrSlice (named 0) κ u8 .own s (v ∷ [])
@@ -156,8 +164,9 @@ module _ {M : Type 1} (𝓤 : URA M) (H : Heap 𝓤) (A : Atoms 𝓤) (W : Given
   exits : (z : Three) (u : Val) → threeSays z ≡ threeAt (now s) n → ent 𝓤 (⋆ 𝓤 H A (‵ (Z.the-row .own z (u ∷ [])) ∷ Token ∷ ‵ Own ∷ [])) (Post u)
   exits z u e =
       qed W (‵ (Z.the-row .own z (u ∷ [])) ∷ Token ∷ ‵ Own ∷ []) ∵
-      suffices ! _ (ends-at 𝓤 H A three-at.ended stayed (three-at.clauses 𝓤 H A mem run) W (((κ, tt), (q, tt), tt, (s, (n, tt)), at), tt) u z (tt, (tt, tt)) (tt, (tt, tt))) $
-      says ! e $ move ! (1 ∷ []) $ frame ! $ nothing ! $ owned ! usize (Is usize) (uint-makes 𝓤 H A W w64) n _ (refl, ok) $ fjoin ! $ move ! (2 ∷ 0 ∷ []) $ fjoin ! $ frame ! $ done !
+      suffices ! _ (ends-at 𝓤 H A three-at.ended stayed c W (((κ, tt), (q, tt), tt, (s, (n, tt)), at), g) u z (tt, (tt, tt)) (tt, (tt, tt))) $
+      suffices ! _ (beside 𝓤 _ _ (says-so (κ, tt) (s, (n, tt)) g z _ e)) $ move ! (1 ∷ []) $ frame ! $ nothing ! $
+      owned ! usize (Is usize) (uint-makes 𝓤 H A W w64) n _ (refl, ok) $ fjoin ! $ move ! (2 ∷ 0 ∷ []) $ fjoin ! $ frame ! $ done !
 
   module _ (C : Calls 𝓤 H) (Λ : Loops 𝓤 H) (fm : FmC 𝓤 H (W .laws) C) (known-new : Triple 𝓤 (C #reader·new) (New 𝓤 H A mem run)) (known-draw : Triple 𝓤 (C #reader·draw) (Draw 𝓤 H A mem run))
       (known-after : Triple 𝓤 (C #reader·after) (After 𝓤 H A mem run)) (known-next-of : Triple 𝓤 (C #reader·next-of) (NextOf 𝓤 H A mem run))
@@ -232,12 +241,13 @@ module _ {M : Type 1} (𝓤 : URA M) (H : Heap 𝓤) (A : Atoms 𝓤) (W : Given
         by ! (exits z u₈ (right s n e e₁ e₂ e₃ e₄ e₅ e₆ e₇ e₈))))))))))))))))))))))))))
 
 pub three-meets : {M : Type 1} (𝓤 : URA M) (H : Heap 𝓤) (A : Atoms 𝓤) (W : Given 𝓤 H A) (mem : Memory → SProp 𝓤) (run : Routine → Fun 𝓤) (𝓣 : Tables 𝓤 H)
+    (c : Clauses 𝓤 three-at.ended) → Says-so 𝓤 H A c
     → Triple 𝓤 (𝓣 .C #reader·new) (New 𝓤 H A mem run) → Triple 𝓤 (𝓣 .C #reader·draw) (Draw 𝓤 H A mem run) → Triple 𝓤 (𝓣 .C #reader·after) (After 𝓤 H A mem run)
     → Triple 𝓤 (𝓣 .C #reader·next-of) (NextOf 𝓤 H A mem run) → Triple 𝓤 (𝓣 .C #reader·threefold) (Threefold 𝓤 H A mem run)
-    → Triple 𝓤 (WpFn 𝓤 H (𝓣 .C) (𝓣 .Λ) drawing) (tripleOf 𝓤 H A three-at.signature (three-at.spec 𝓤 H A mem run))
-three-meets 𝓤 H A W mem run 𝓣 known-new known-draw known-after known-next-of known-threefold =
-    meets 𝓤 H A W 𝓣 drawing three-at.ended stayed (three-at.clauses 𝓤 H A mem run)
+    → Triple 𝓤 (WpFn 𝓤 H (𝓣 .C) (𝓣 .Λ) drawing) (tripleOf 𝓤 H A three-at.signature (closing 𝓤 H A three-at.ended c))
+three-meets 𝓤 H A W mem run 𝓣 c says-so known-new known-draw known-after known-next-of known-threefold =
+    meets 𝓤 H A W 𝓣 drawing three-at.ended stayed c
     (goes-none-slice 𝓤 H A W 1 (0 ∷ []) tt (plain (λ _. u8)) yes, (goes-none 𝓤 H A W 1 (λ _. usize) yes (λ κs x f. refl), tt))
     (λ κs. (slice-vals, (uint-vals w64, tt))) (λ κs. (shr-slice-tells (named 0) (κs .0) u8, (uint-tells w64, tt)))
-    (λ κs qs bounds a g are. via 𝓤 _ (fst∗ 𝓤 _ (emp 𝓤))
-    (walk 𝓤 H A W mem run (κs .0) (qs .0) (a .0) (a .1 .0) (are .1 .0 .1) (𝓣 .C) (𝓣 .Λ) (fmOf 𝓤 H (W .laws) 𝓣) known-new known-draw known-after known-next-of known-threefold (are .0)))
+    (λ κs qs bounds a g are. via 𝓤 _ (fst∗ 𝓤 _ (c κs a .requires g))
+    (walk 𝓤 H A W mem run c says-so (κs .0) (qs .0) (a .0) (a .1 .0) g (are .1 .0 .1) (𝓣 .C) (𝓣 .Λ) (fmOf 𝓤 H (W .laws) 𝓣) known-new known-draw known-after known-next-of known-threefold (are .0)))
