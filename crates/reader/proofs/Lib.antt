@@ -1,4 +1,3 @@
-pub mod Calls
 pub mod Drawing
 pub mod Held
 pub mod ThreeDraws

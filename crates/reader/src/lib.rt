@@ -55,6 +55,7 @@ fn next_of(drawn: Drawn) -> usize
     }
 }
 
+// What three draws came to, as one answer.
 fn threefold(first: Drawn, second: Drawn, third: Drawn) -> Three
     ensures { λ t. ⌜ t ≡ record { first = first; second = second; third = third } ⌝ }
 {
@@ -78,9 +79,10 @@ pub fn three_at(bytes: &[u8], at: usize) -> Three
     threefold(first, second, third)
 }
 
-// The same, for a head. Each of the two has one caller, and is compiled into it: one function for both would be a call for each entry.
+// The same, for a request's head. Each of the two has one caller and is compiled into it: one function for both would stay a call, and
+// reading a request would take nearly twice as long.
 pub fn head_at(bytes: &[u8], at: usize) -> Three
-    ensures { λ t. ⌜ threeSays t ≡ threeAt (old bytes) at ⌝ }
+    ensures { λ h. ⌜ threeSays h ≡ threeAt (old bytes) at ⌝ }
 {
     let reader = Reader::new(bytes, at);
     let first = reader.draw();
