@@ -8,8 +8,8 @@ use Rattle.rules.specs.Limits.{greatest}
 use Rattle.boxes.specs.declared.Box.{Box}
 use Rattle.boxes.specs.declared.Cut.{Cut}
 use Rattle.boxes.specs.declared.Cut.the-variants.{Parts, None}
-use Rattle.boxes.specs.declared.LValue.{LValue}
-use Rattle.boxes.specs.declared.RValue.{RValue}
+use Rattle.boxes.specs.declared.left.LValue.{LValue}
+use Rattle.boxes.specs.declared.right.RValue.{RValue}
 
 -- the coordinates of a number
 abbrev pub lOf : ℕ → LValue

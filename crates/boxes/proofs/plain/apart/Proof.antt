@@ -1,8 +1,8 @@
--- `boxes::apart` meets its contract.
+-- `boxes::plain::apart` meets its contract.
 use Rattle.boxes.proofs.Ranges.{apart-up, apart-down}
 use borrow.Author.Needs.{needs}
-use Rattle.boxes.proofs.apart.Statement.{statement}
-use Rattle.boxes.proofs.apart.Tie as tie
+use Rattle.boxes.proofs.plain.apart.Statement.{statement}
+use Rattle.boxes.proofs.plain.apart.Tie as tie
 
 pub apart-spec : {M : Type 1} → statement M
 apart-spec =

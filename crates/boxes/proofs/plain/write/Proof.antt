@@ -1,11 +1,11 @@
--- `boxes::write` meets its contract.
+-- `boxes::plain::write` meets its contract.
 use lib.Seq.{set-out}
 use borrow.Author.Tests.{le-leb, lt-leb}
 use borrow.Author.Needs.{needs}
 use Rattle.rules.specs.Limits.{greatest}
 use Rattle.boxes.specs.Boxes.{written}
-use Rattle.boxes.proofs.write.Statement.{statement}
-use Rattle.boxes.proofs.write.Tie as tie
+use Rattle.boxes.proofs.plain.write.Statement.{statement}
+use Rattle.boxes.proofs.plain.write.Tie as tie
 
 pub write-spec : {M : Type 1} → statement M
 unfolding written

@@ -1,0 +1,63 @@
+// The r coordinate. Its number is private to this module.
+ghost use mathlib.Core.Path.{_≡_};
+ghost use Prim.Native.Nat.{_+_, _≤_};
+ghost use Rattle.rules.specs.Lent.{old, new};
+ghost use Rattle.boxes.specs.Boxes.{rOf, within, apart, atMost, written, past};
+use crate::plain::apart;
+use crate::plain::passes;
+use crate::plain::within;
+use crate::plain::write;
+
+// An r-value.
+pub struct RValue(u64);
+
+impl RValue {
+    // The r-value of a number.
+    pub fn new(n: u64) -> RValue
+        ensures { λ x. ⌜ x ≡ rOf n ⌝ }
+    {
+        RValue(n)
+    }
+
+    pub fn at_most(self, r: RValue) -> bool
+        ensures { λ t. ⌜ t ≡ atMost (self .0) (r .0) ⌝ }
+    {
+        self.0 <= r.0
+    }
+
+    // Writes it to a place of a column.
+    pub fn write(self, column: &mut [u32], i: usize)
+        ensures { λ _. ⌜ new column ≡ written (old column) i (self .0) ⌝ }
+    {
+        write(column, i, self.0);
+    }
+
+    // Of the r ranges of q numbers from here on and of p numbers from there on, the second lies in the first.
+    pub(crate) fn encloses(self, q: u64, there: RValue, p: u64) -> bool
+        ensures { λ t. ⌜ t ≡ within (self .0) q (there .0) p ⌝ }
+    {
+        within(self.0, q, there.0, p)
+    }
+
+    // They are disjoint.
+    pub(crate) fn apart_from(self, q: u64, there: RValue, p: u64) -> bool
+        ensures { λ t. ⌜ t ≡ apart (self .0) q (there .0) p ⌝ }
+    {
+        apart(self.0, q, there.0, p)
+    }
+
+    // The r-value n numbers on is past 64 bits.
+    pub(crate) fn passes(self, n: u64) -> bool
+        ensures { λ t. ⌜ t ≡ past (self .0 + n) ⌝ }
+    {
+        passes(self.0, n)
+    }
+
+    // The r-value n numbers on.
+    pub(crate) fn plus(self, n: u64) -> RValue
+        requires { ⌜ self .0 + n ≤ 18446744073709551615 ⌝ }
+        ensures { λ x. ⌜ x ≡ rOf (self .0 + n) ⌝ }
+    {
+        RValue(self.0 + n)
+    }
+}
