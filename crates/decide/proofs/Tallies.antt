@@ -21,13 +21,9 @@ abbrev All : (Window → Bool) → List Window → Type 0
 All p [] = Unit {0}
 All p (w ∷ ws) = (p w ≡ true) × All p ws
 
-those-yes : (p : Window → Bool) (w : Window) (ws : List Window) → p w ≡ true → those p (w ∷ ws) ≡ w ∷ those p ws
+those-first : (p : Window → Bool) (w : Window) (ws : List Window) {b : Bool} → p w ≡ b → those p (w ∷ ws) ≡ cond b (w ∷ those p ws) (those p ws)
 unfolding those
-those-yes p w ws e = rw e
-
-those-no : (p : Window → Bool) (w : Window) (ws : List Window) → p w ≡ false → those p (w ∷ ws) ≡ those p ws
-unfolding those
-those-no p w ws e = rw e
+those-first p w ws e = rw e
 
 those-all : (p : Window → Bool) (ws : List Window) → All p (those p ws)
 unfolding those
@@ -66,7 +62,7 @@ module _ (day : ℕ) (t : Tally) (w : Window) (ws : List Window) (right : Right 
       let no : runs day w ≡ false = rw (lt-leb _ _ h) in
       let notOver : hasEnded day w ≡ false = by-eq (w .last) 0 (λ e. rw (eq-eqb (w .last) 0 e)) (λ e. rw (ne-eqb (w .last) 0 e) (le-ltb (w .last) day (omega (arith, right e)))) in
       let yes : yetToBegin day w ≡ true = lt-ltb _ _ h in
-      rw (those-no (runs day) w ws no, those-no (hasEnded day) w ws notOver, those-yes (yetToBegin day) w ws yes, lt-ltb _ _ h)
+      rw (those-first (runs day) w ws no, those-first (hasEnded day) w ws notOver, those-first (yetToBegin day) w ws yes, lt-ltb _ _ h)
 
   step-endless : w .first ≤ day → w .last ≡ 0 → kept day (countIn day t w) ws ≡ kept day t (w ∷ ws)
   unfolding countIn someOpen greatestLast runs hasEnded yetToBegin isOpen
@@ -76,7 +72,7 @@ module _ (day : ℕ) (t : Tally) (w : Window) (ws : List Window) (right : Right 
       let yes : runs day w ≡ true = rw (le-leb _ _ h, e) in
       let notOver : hasEnded day w ≡ false = rw e in
       let no : yetToBegin day w ≡ false = le-ltb _ _ h in
-      rw (those-yes (runs day) w ws yes, those-no (hasEnded day) w ws notOver, those-no (yetToBegin day) w ws no, le-ltb _ _ h, e)
+      rw (those-first (runs day) w ws yes, those-first (hasEnded day) w ws notOver, those-first (yetToBegin day) w ws no, le-ltb _ _ h, e)
       (same-tally (sym (or-true (t .endless))) (ap (λ (n : ℕ). greatestLast n (those (runs day) ws)) (sym m)) refl refl)
 
   step-over : w .first ≤ day → (w .last ≡ 0 → ⊥) → w .last < day → kept day (countIn day t w) ws ≡ kept day t (w ∷ ws)
@@ -86,7 +82,7 @@ module _ (day : ℕ) (t : Tally) (w : Window) (ws : List Window) (right : Right 
       let notOn : runs day w ≡ false = rw (le-leb _ _ h, e) (lt-leb _ _ l) in
       let yes : hasEnded day w ≡ true = rw e (lt-ltb _ _ l) in
       let no : yetToBegin day w ≡ false = le-ltb _ _ h in
-      rw (those-no (runs day) w ws notOn, those-yes (hasEnded day) w ws yes, those-no (yetToBegin day) w ws no, le-ltb _ _ h, e, lt-ltb _ _ l)
+      rw (those-first (runs day) w ws notOn, those-first (hasEnded day) w ws yes, those-first (yetToBegin day) w ws no, le-ltb _ _ h, e, lt-ltb _ _ l)
 
   step-on : w .first ≤ day → (w .last ≡ 0 → ⊥) → day ≤ w .last → kept day (countIn day t w) ws ≡ kept day t (w ∷ ws)
   unfolding countIn someOpen greatestLast runs hasEnded yetToBegin isOpen
@@ -95,7 +91,7 @@ module _ (day : ℕ) (t : Tally) (w : Window) (ws : List Window) (right : Right 
       let yes : runs day w ≡ true = rw (le-leb _ _ h, e) (le-leb _ _ l) in
       let notOver : hasEnded day w ≡ false = rw e (le-ltb _ _ l) in
       let no : yetToBegin day w ≡ false = le-ltb _ _ h in
-      rw (those-yes (runs day) w ws yes, those-no (hasEnded day) w ws notOver, those-no (yetToBegin day) w ws no, le-ltb _ _ h, e, le-ltb _ _ l)
+      rw (those-first (runs day) w ws yes, those-first (hasEnded day) w ws notOver, those-first (yetToBegin day) w ws no, le-ltb _ _ h, e, le-ltb _ _ l)
 
   step : kept day (countIn day t w) ws ≡ kept day t (w ∷ ws)
   step =

@@ -44,13 +44,6 @@ tree-itself : (d : Direction) (t : Forest) (x : ℕ) → 1 ≤ times x (preL t) 
 tree-itself upright t x h = above-itself t x h
 tree-itself inverted t x h = above-itself t x h
 
--- the rules one by one
-module _ (q : Request) (g : Ledger) where
-  joined : (x y : ℕ) {a b c d e : Bool} → staysBelow q g x y ≡ a → belowEntries q g x y ≡ b → aboveEntries q g x y ≡ c → itself q x y ≡ d → byTrees q x y ≡ e
-      → orderAfter q g x y ≡ (a || (b || (c || (d || e))))
-  unfolding orderAfter
-  joined x y ea eb ec ed ee = rw (ea, eb, ec, ed, ee)
-
 -- what is asked of the old order and of the request
 pub record Asked (q : Request) (g : Ledger) : Type 0 where
   pub once : times (q .exploded) (entries q) ≡ 1
@@ -65,15 +58,13 @@ pub record Other (q : Request) (g : Ledger) (x : ℕ) : Type 0 where
   pub no-entry : times x (entries q) ≡ 0
 
 module _ {q : Request} {g : Ledger} (h : Asked q g) where
-  entry-no-other : (x : ℕ) → IsEntry q x → isOther q g x ≡ false
-  unfolding isOther
-  entry-no-other x k = by-eq x (q .exploded) (λ e. rw (eq-eqb x (q .exploded) e)) (λ n.
-      let z : times x (g .groups) < 1 = omega (arith, h .new x n k) in
-      rw (lt-leb 1 (times x (g .groups)) z) (and-false (not (eqb x (q .exploded)))))
-
   unknown-no-other : (x : ℕ) → times x (g .groups) ≡ 0 → isOther q g x ≡ false
   unfolding isOther
   unknown-no-other x k = let z : times x (g .groups) < 1 = omega arith in rw (lt-leb 1 (times x (g .groups)) z) (and-false (not (eqb x (q .exploded))))
+
+  entry-no-other : (x : ℕ) → IsEntry q x → isOther q g x ≡ false
+  unfolding isOther
+  entry-no-other x k = by-eq x (q .exploded) (λ e. rw (eq-eqb x (q .exploded) e)) (λ n. unknown-no-other x (h .new x n k))
 
   other-is : {x : ℕ} → Other q g x → isOther q g x ≡ true
   unfolding isOther
@@ -85,11 +76,25 @@ module _ {q : Request} {g : Ledger} (h : Asked q g) where
   no-entry : (x : ℕ) → times x (entries q) ≡ 0 → has x (entries q) ≡ false
   no-entry x k = lt-leb 1 (times x (entries q)) (omega arith)
 
-  -- old pairs
-  stays-others : {x y : ℕ} → Other q g x → Other q g y → staysBelow q g x y ≡ g .order x y
-  unfolding staysBelow
-  stays-others {x} {y} o p = rw (ne-eqb x (q .exploded) (o .differs), ne-eqb y (q .exploded) (p .differs))
+  -- an entry and itself
+  itself-trees : (x y : ℕ) → IsEntry q x → (itself q x y || byTrees q x y) ≡ treeOrder (q .direction) (q .trees) x y
+  unfolding itself byTrees
+  itself-trees x y k =
+      by-eq x y (λ e. rw (← e, tree-itself (q .direction) (q .trees) x k) (or-true (has x (entries q) && eqb x x)))
+      (λ n. rw (ne-eqb x y n, and-false (has x (entries q))))
 
+  itself-right : (x y : ℕ) → times y (entries q) ≡ 0 → itself q x y ≡ false
+  unfolding itself
+  itself-right x y e = by-eq x y (λ k. rw (k, no-entry y e)) (λ k. rw (ne-eqb x y k) (and-false (has x (entries q))))
+
+  -- two old groups other than u
+  pub others-after : (x y : ℕ) → Other q g x → Other q g y → orderAfter q g x y ≡ g .order x y
+  unfolding orderAfter staysBelow belowEntries aboveEntries itself byTrees
+  others-after x y o p =
+      rw (ne-eqb x (q .exploded) (o .differs), ne-eqb y (q .exploded) (p .differs), other-is o, other-is p, no-entry x (o .no-entry), no-entry y (p .no-entry))
+      (rw (tree-left (q .direction) (q .trees) x y (o .no-entry)) (or-false (g .order x y)))
+
+  -- an entry, or an id that the ledger does not know, has no old pairs
   stays-unknown : (x y : ℕ) → g .order x y ≡ false → staysBelow q g x y ≡ false
   unfolding staysBelow
   stays-unknown x y e = rw (e, and-false (not (eqb y (q .exploded))), and-false (not (eqb x (q .exploded))))
@@ -104,80 +109,31 @@ module _ {q : Request} {g : Ledger} (h : Asked q g) where
       by-eq y (q .exploded) (λ e. rw (eq-eqb y (q .exploded) e) (and-false (not (eqb x (q .exploded)))))
       (λ n. stays-unknown x y (h .above-known x y (h .new y n k)))
 
-  -- another group and an entry
-  below-no-other : (x y : ℕ) → isOther q g x ≡ false → belowEntries q g x y ≡ false
-  unfolding belowEntries
-  below-no-other x y e = rw e
-
-  below-no-entry : (x y : ℕ) → times y (entries q) ≡ 0 → belowEntries q g x y ≡ false
-  unfolding belowEntries
-  below-no-entry x y e = rw (no-entry y e) (and-false (isOther q g x))
-
-  below-is : {x : ℕ} (y : ℕ) → Other q g x → IsEntry q y → belowEntries q g x y ≡ g .order x (q .exploded)
-  unfolding belowEntries
-  below-is {x} y o k = rw (other-is o, is-entry y k)
-
-  above-no-other : (x y : ℕ) → isOther q g y ≡ false → aboveEntries q g x y ≡ false
-  unfolding aboveEntries
-  above-no-other x y e = rw e
-
-  above-no-entry : (x y : ℕ) → times x (entries q) ≡ 0 → aboveEntries q g x y ≡ false
-  unfolding aboveEntries
-  above-no-entry x y e = rw (no-entry x e) (and-false (isOther q g y))
-
-  above-is : (x : ℕ) {y : ℕ} → IsEntry q x → Other q g y → aboveEntries q g x y ≡ g .order (q .exploded) y
-  unfolding aboveEntries
-  above-is x {y} k o = rw (other-is o, is-entry x k)
-
-  -- two entries
-  itself-trees : (x y : ℕ) → IsEntry q x → (itself q x y || byTrees q x y) ≡ treeOrder (q .direction) (q .trees) x y
-  unfolding itself byTrees
-  itself-trees x y k =
-      by-eq x y (λ e. rw (← e, tree-itself (q .direction) (q .trees) x k) (or-true (has x (entries q) && eqb x x)))
-      (λ n. rw (ne-eqb x y n, and-false (has x (entries q))))
-
-  itself-left : (x y : ℕ) → times x (entries q) ≡ 0 → itself q x y ≡ false
-  unfolding itself
-  itself-left x y e = rw (no-entry x e)
-
-  itself-right : (x y : ℕ) → times y (entries q) ≡ 0 → itself q x y ≡ false
-  unfolding itself
-  itself-right x y e = by-eq x y (λ k. rw (k, no-entry y e)) (λ k. rw (ne-eqb x y k) (and-false (has x (entries q))))
-
-  trees-left : (x y : ℕ) → times x (entries q) ≡ 0 → byTrees q x y ≡ false
-  unfolding byTrees
-  trees-left x y e = tree-left (q .direction) (q .trees) x y e
-
-  trees-right : (x y : ℕ) → times y (entries q) ≡ 0 → byTrees q x y ≡ false
-  unfolding byTrees
-  trees-right x y e = tree-right (q .direction) (q .trees) x y e
-
-  -- the four cases of two groups
+  -- two entries; an entry and an old group
   pub entries-after : (x y : ℕ) → IsEntry q x → IsEntry q y → orderAfter q g x y ≡ treeOrder (q .direction) (q .trees) x y
-  entries-after x y hx hy =
-      joined q g x y (stays-left x y hx) (below-no-other x y (entry-no-other x hx)) (above-no-other x y (entry-no-other y hy)) refl refl
-      ∙ itself-trees x y hx
+  unfolding orderAfter belowEntries aboveEntries
+  entries-after x y hx hy = rw (stays-left x y hx, entry-no-other x hx, entry-no-other y hy) (itself-trees x y hx)
 
   pub entry-other : (x y : ℕ) → IsEntry q x → Other q g y → orderAfter q g x y ≡ g .order (q .exploded) y
+  unfolding orderAfter belowEntries aboveEntries byTrees
   entry-other x y hx o =
-      joined q g x y (stays-left x y hx) (below-no-other x y (entry-no-other x hx)) (above-is x hx o) (itself-right x y (o .no-entry)) (trees-right x y (o .no-entry))
-      ∙ or-false (g .order (q .exploded) y)
+      rw (stays-left x y hx, entry-no-other x hx, other-is o, is-entry x hx, itself-right x y (o .no-entry), tree-right (q .direction) (q .trees) x y (o .no-entry))
+      (or-false (g .order (q .exploded) y))
 
   pub other-entry : (x y : ℕ) → Other q g x → IsEntry q y → orderAfter q g x y ≡ g .order x (q .exploded)
+  unfolding orderAfter belowEntries aboveEntries itself byTrees
   other-entry x y o hy =
-      joined q g x y (stays-right x y hy) (below-is y o hy) (above-no-other x y (entry-no-other y hy)) (itself-left x y (o .no-entry)) (trees-left x y (o .no-entry))
-      ∙ or-false (g .order x (q .exploded))
-
-  pub others-after : (x y : ℕ) → Other q g x → Other q g y → orderAfter q g x y ≡ g .order x y
-  others-after x y o p =
-      joined q g x y (stays-others o p) (below-no-entry x y (p .no-entry)) (above-no-entry x y (o .no-entry)) (itself-left x y (o .no-entry)) (trees-left x y (o .no-entry))
-      ∙ or-false (g .order x y)
+      rw (stays-right x y hy, other-is o, is-entry y hy, entry-no-other y hy, no-entry x (o .no-entry), tree-left (q .direction) (q .trees) x y (o .no-entry))
+      (or-false (g .order x (q .exploded)))
 
   -- an id that is neither
   pub left-unknown : (x y : ℕ) → times x (g .groups) ≡ 0 → times x (entries q) ≡ 0 → orderAfter q g x y ≡ false
+  unfolding orderAfter belowEntries aboveEntries itself byTrees
   left-unknown x y k e =
-      joined q g x y (stays-unknown x y (h .below-known x y k)) (below-no-other x y (unknown-no-other x k)) (above-no-entry x y e) (itself-left x y e) (trees-left x y e)
+      rw (stays-unknown x y (h .below-known x y k), unknown-no-other x k, no-entry x e, and-false (isOther q g y), tree-left (q .direction) (q .trees) x y e)
 
   pub right-unknown : (x y : ℕ) → times y (g .groups) ≡ 0 → times y (entries q) ≡ 0 → orderAfter q g x y ≡ false
+  unfolding orderAfter belowEntries aboveEntries byTrees
   right-unknown x y k e =
-      joined q g x y (stays-unknown x y (h .above-known x y k)) (below-no-entry x y e) (above-no-other x y (unknown-no-other y k)) (itself-right x y e) (trees-right x y e)
+      rw (stays-unknown x y (h .above-known x y k), unknown-no-other y k, no-entry y e, and-false (isOther q g x), itself-right x y e)
+      (tree-right (q .direction) (q .trees) x y e)

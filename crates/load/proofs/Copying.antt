@@ -71,8 +71,3 @@ rows-copied w c count ea eb ed ee =
     let r = values (λ v. v .r) (w .r) w (λ i. refl) 0 count in
     let q = values (λ v. v .q) (w .q) w (λ i. refl) 0 count in
     rw (i, l, r, q, ea, eb, ed, ee)
-
--- no rows change nothing
-pub none-copied : (w c : Columns) → put (rows w 0) c ≡ c
-unfolding put rowsFrom
-none-copied w c = refl

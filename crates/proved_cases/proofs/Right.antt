@@ -16,7 +16,8 @@ use Rattle.matching.specs.Matching.{windows, appliesTo}
 use Rattle.decide.specs.Dating.{isOpen, runs, hasEnded, yetToBegin, those, someOpen, greatestLast, leastFirst, tried, dated}
 use Rattle.decide.specs.Decision.{questionBad, decided}
 use Rattle.ledger.specs.Ledger.{freshLedger, acceptedBy, isOther, staysBelow, belowEntries, aboveEntries, itself, byTrees, orderAfter, replace, explodedLedger, ledgerRefined, ledgerOrder}
-use Rattle.ledger.specs.Calls.{engineReply, engineAfter, engineReplies, engineEnd, engineStart, ledgerReply, ledgerAfter, ledgerReplies, ledgerEnd}
+use Rattle.ledger.specs.Calls.{engineReply, engineAfter, engineReplies, engineEnd, engineStart, ledgerReply, ledgerAfter, ledgerReplies, ledgerEnd, explodes, explodedIn}
+use Rattle.ledger.specs.Decisions.{groupGrantBad, someGroupGrantBad, appliesBy, ledgerDecided}
 use Rattle.text.specs.Decimal.{digits, decimal}
 use Rattle.log.specs.Log.{pairOf, partAt, partThen, requestsFrom, requestsAt}
 use Rattle.decision_line.specs.DecisionText.{decisionText}
@@ -24,15 +25,15 @@ use Rattle.lines.specs.Lines.{fieldText, lineText, headingText, rowText, tableT
 use Rattle.replay.specs.Run.{answersTo, tableEnd}
 use Rattle.replay.specs.Replay.{endText, replayFrom, replayOf, textOf}
 use Rattle.proved_cases.specs.Cases.{computed, stated}
-use Rattle.proved_cases.specs.Table.{cases, besideRequest, uprightRequest, invertedRequest, first9, second9, third9, fourth9, log9, lines9, rows9, calls9, replies9}
+use Rattle.proved_cases.specs.Table.{cases, besideRequest, uprightRequest, invertedRequest, first9, second9, third9, fourth9, log9, lines9, rows9, calls9, replies9, requests9}
 
 pub cases-right : map computed cases ≡ map stated cases
-unfolding cases besideRequest uprightRequest invertedRequest first9 second9 third9 fourth9 log9 lines9 rows9 calls9 replies9 numberAt bitGroupsAt lastByte
+unfolding cases besideRequest uprightRequest invertedRequest first9 second9 third9 fourth9 log9 lines9 rows9 calls9 replies9 requests9 numberAt bitGroupsAt lastByte
     followed addedTo bytesOf bitGroupsOf rowsFrom put someRow somePair lengthsBad countBad valueBad sameId rangesMeet apart soundRows checked freshRows
     subgroup orderBy rowOf orderIn order grantBad checkedGrant grantAt grantsFrom grantsOf grantBytes grantsBytes windows appliesTo isOpen runs hasEnded
     yetToBegin those someOpen greatestLast leastFirst tried dated questionBad decided positiveAt entryAt treesBy treeBy notFull treesAt directionOf requestOf someEntry
     accepted refineRows explodedRows refined engineReply engineAfter engineReplies engineEnd engineStart freshLedger acceptedBy isOther staysBelow
     belowEntries aboveEntries itself byTrees orderAfter replace explodedLedger ledgerRefined ledgerOrder ledgerReply ledgerAfter ledgerReplies ledgerEnd
     digits decimal fieldText lineText headingText rowText tableText decisionText flatMap pairOf partAt partThen requestsFrom requestsAt answersTo
-    tableEnd endText replayFrom replayOf textOf
+    tableEnd endText replayFrom replayOf textOf explodes explodedIn groupGrantBad someGroupGrantBad appliesBy ledgerDecided
 cases-right = refl

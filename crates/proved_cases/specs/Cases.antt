@@ -1,23 +1,38 @@
 -- The kinds of worked example in document 01: what is given, what the definitions make of it, and what the document says.
 use Prim.Native.Nat.{ℕ}
 use Prim.Native.String.{String}
+use mathlib.Core.Bool.{Bool}
 use mathlib.Core.List.{List, [], _∷_, _++_, map}
-use lib.ListN.{length, replicate}
+use lib.ListN.{length, replicate, take, drop}
 use Rattle.rules.specs.Answers.{Answer, answer, refused}
 use Rattle.rules.specs.Limits.{mostRows}
 use Rattle.number.specs.Number.{Number, found, numberAt, bytesOf}
 use Rattle.request.specs.Entries.{quotaOf}
-use Rattle.table.specs.Columns.{Row, Columns, columns, rows, counted, afterwards}
+use Rattle.table.specs.Columns.{Row, Columns, columns, rows, lOf, rOf, counted, afterwards}
 use Rattle.fresh.specs.Fresh.{freshRows}
-use Rattle.grant.specs.Grant.{Grant, grantsBytes}
+use Rattle.grant.specs.Grant.{Grant, grant, grantsBytes}
 use Rattle.decide.specs.Dating.{Decision}
 use Rattle.decide.specs.Decision.{decided}
 use Rattle.decision_line.specs.DecisionText.{decisionText}
 use Rattle.ledger.specs.Ledger.{Ledger, freshLedger, afreshL, afreshR}
-use Rattle.ledger.specs.Calls.{Call, Reply, engineStart, engineReplies, engineEnd, ledgerReplies, ledgerEnd}
+use Rattle.ledger.specs.Calls.{Call, Reply, engineStart, engineReplies, engineEnd, ledgerReplies, ledgerEnd, explodedIn}
+use Rattle.ledger.specs.Decisions.{GroupGrant, ledgerDecided}
 use Rattle.table.specs.Columns.{Table, rowsIn}
 use Rattle.replay.specs.Replay.{Replay, replayOf, growText}
 use Rattle.proved_cases.specs.Lines.{lines}
+
+-- a grant to a group whose numbers were noted after some of the calls
+pub record Held : Type 0 where
+  pub after : ℕ
+  pub grant : GroupGrant
+
+-- a group's l and r as they were noted, and after all the calls; whether an accepted request exploded it in between
+pub record Note : Type 0 where
+  pub l : ℕ
+  pub r : ℕ
+  pub lastL : ℕ
+  pub lastR : ℕ
+  pub exploded : Bool
 
 pub data Case : Type 0 where
   -- a number and its stored bytes
@@ -32,6 +47,9 @@ pub data Case : Type 0 where
   asked : (feature l r day : ℕ) → List Grant → Answer Decision → Case
   -- a decision or a refusal, and the line that is printed of it
   answered : Answer Decision → String → Case
+  -- fresh of a group and a quota, then calls; a pass of the group x, noted after n of them, and grants; feature and day. The pass's note and the grants',
+  -- what is decided from their numbers, and what the ledger's last order gives
+  noted : (id quota : ℕ) → List Call → (n x : ℕ) → List Held → (feature day : ℕ) → List Note → (byNumbers byOrder : Answer Decision) → Case
 
 -- what the definitions say, and what the document says
 pub data Outcome : Type 0 where
@@ -45,6 +63,8 @@ pub data Outcome : Type 0 where
   printed : List ℕ → List Row → Outcome
   -- the decision on the grants' stored bytes
   decision : Answer Decision → Outcome
+  -- the notes of a pass and of grants, the decision from their numbers, and the ledger's
+  decisions : List Note → Answer Decision → Answer Decision → Outcome
 
 -- columns of the most rows that nobody wrote yet
 abbrev pub blank : Columns
@@ -69,6 +89,26 @@ engine id quota = engineStart blank id quota
 abbrev pub ledger : (id quota : ℕ) → Ledger
 ledger id quota = freshLedger mostRows id quota
 
+-- what is noted of the group x after n of the calls
+abbrev pub note : (id quota : ℕ) → List Call → (n x : ℕ) → Note
+note id quota calls n x =
+    let t = rowsIn (engineEnd (engine id quota) (take n calls)) in
+    let last = rowsIn (engineEnd (engine id quota) calls) in
+    record {
+      l = lOf x t;
+      r = rOf x t;
+      lastL = lOf x last;
+      lastR = rOf x last;
+      exploded = explodedIn x (ledgerEnd (ledger id quota) (take n calls)) (drop n calls);
+    }
+
+abbrev pub noteOf : (id quota : ℕ) → List Call → Held → Note
+noteOf id quota calls h = note id quota calls (h .after) (h .grant .group)
+
+-- the grant as it is stored
+abbrev pub storedAs : (id quota : ℕ) → List Call → Held → Grant
+storedAs id quota calls h = let n = noteOf id quota calls h in grant (h .grant .feature) (n .l) (n .r) (h .grant .first) (h .grant .last)
+
 -- the rows after a log
 abbrev pub rowsAfter : Answer Replay → List Row
 rowsAfter (answer r) = rows (r .table .columns) (r .table .count)
@@ -85,6 +125,11 @@ computed (grown id quota calls said after) =
 computed (logged numbers text after) = printed (growText blank (stream numbers)) (rowsAfter (replayOf blank (stream numbers)))
 computed (asked feature l r day gs said) = decision (decided feature l r day (grantsBytes gs))
 computed (answered said text) = printed (decisionText said) []
+computed (noted id quota calls n x hs feature day ns byNumbers byOrder) =
+    let pass = note id quota calls n x in
+    decisions (pass ∷ map (noteOf id quota calls) hs)
+    (decided feature (pass .l) (pass .r) day (grantsBytes (map (storedAs id quota calls) hs)))
+    (ledgerDecided (ledgerEnd (ledger id quota) calls) feature x day (map (λ h. h .grant) hs))
 
 abbrev pub stated : Case → Outcome
 stated (stored value bytes) = codec bytes (found value (length bytes))
@@ -93,3 +138,4 @@ stated (grown id quota calls said after) = run said after said after
 stated (logged numbers text after) = printed (lines text) after
 stated (asked feature l r day gs said) = decision said
 stated (answered said text) = printed (lines (text ∷ [])) []
+stated (noted id quota calls n x hs feature day ns byNumbers byOrder) = decisions ns byNumbers byOrder

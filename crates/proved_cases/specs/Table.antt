@@ -1,6 +1,7 @@
--- The cases that document 01 marks P, in its order; after its decisions, the lines that `may` prints of them.
+-- The cases that document 01 marks P, in its order; after its decisions, the lines that `may` prints of them. At the end, demand 3's last two clauses.
 use Prim.Native.Nat.{ℕ}
 use Prim.Native.String.{String}
+use mathlib.Core.Bool.{true, false}
 use mathlib.Core.List.{List, [], _∷_, _++_}
 use Rattle.rules.specs.Answers.{answer, refused}
 use Rattle.table.specs.Columns.{Row}
@@ -8,7 +9,7 @@ use Rattle.order.specs.Order.{Order, same, first, second, incomparable}
 use Rattle.grant.specs.Grant.{grant}
 use Rattle.decide.specs.Dating.{onOpen, onUntil, ended, ahead, never}
 use Rattle.ledger.specs.Calls.{Call, refine, order, Reply, refineSays, orderSays}
-use Rattle.proved_cases.specs.Cases.{Case, stored, made, grown, logged, asked, answered, row, stream}
+use Rattle.proved_cases.specs.Cases.{Case, Held, Note, stored, made, grown, logged, asked, answered, noted, row, stream}
 
 -- a request by its numbers
 abbrev pub request : List ℕ → Call
@@ -119,6 +120,21 @@ replies9 =
     ∷ says first
     ∷ []
 
+-- the requests alone
+unfoldable pub requests9 : List Call
+requests9 = request first9 ∷ request second9 ∷ request third9 ∷ request fourth9 ∷ []
+
+-- feature 7 for a group, from day 10 to a last day, noted after n requests
+abbrev pub held : (n group last : ℕ) → Held
+held n group last = record { after = n; grant = record { feature = 7; group = group; first = 10; last = last } }
+
+-- the note of a group that no later request explodes; of one that is exploded later
+abbrev pub kept : (l r : ℕ) → Note
+kept l r = record { l = l; r = r; lastL = l; lastR = r; exploded = false }
+
+abbrev pub outdated : (l r lastL lastR : ℕ) → Note
+outdated l r lastL lastR = record { l = l; r = r; lastL = lastL; lastR = lastR; exploded = true }
+
 unfoldable pub cases : List Case
 cases =
     stored 127 (0x7f ∷ [])
@@ -148,4 +164,8 @@ cases =
     ∷ answered (refused 15) "no 15"
     ∷ logged log9 lines9 rows9
     ∷ grown 1 100 calls9 replies9 rows9
+    -- 9's pass, and grants to 5 and 3, each noted at a point of its own; then 4 is exploded. 9 ≤ 5 still, and 3's grant is still not 9's
+    ∷ noted 1 100 requests9 3 9 (held 1 5 20 ∷ held 2 3 0 ∷ []) 7 15 (kept 78 6 ∷ kept 96 96 ∷ kept 21 66 ∷ []) (answer (onUntil 20)) (answer (onUntil 20))
+    -- 4's pass noted before 4 is exploded, which `Noted` keeps out: 9 begins where 4 began in r, so that 9's grant would apply, though 4 is no subgroup of 9
+    ∷ noted 1 100 requests9 2 4 (held 3 9 20 ∷ []) 7 15 (outdated 36 6 48 36 ∷ kept 78 6 ∷ []) (answer (onUntil 20)) (answer never)
     ∷ []

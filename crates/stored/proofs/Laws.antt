@@ -94,15 +94,9 @@ rows-fit c h i (suc n) e =
     let a = or-none (valueBad (rowAt c i)) _ e in
     (row-fits (rowAt c i) (h i) (a .0), rows-fit c h (suc i) n (a .1))
 
--- past 10 and the count, the rows up to the bytes' end
-pub read-rest : (d : Columns) (bytes : List ℕ) {count next : ℕ} → lengthsBad d ≡ false → numberAt bytes 0 ≡ found count next → countBad (length (d .id)) count ≡ false
-    → readRows d bytes ≡ rowsToEnd count bytes next
-unfolding readRows
-read-rest d bytes good e h = rw (good, e, h)
-
 table-back : (t : List Row) (d : Columns) → AllFit t → soundRows t ≡ answer t → 1 ≤ length t → lengthsBad d ≡ false → length t ≤ length (d .id)
     → readRows d (tableBytes t) ≡ answer t
-unfolding tableBytes rowsToEnd
+unfolding tableBytes readRows rowsToEnd
 table-back t d f sound some good most =
     let l = lengths-good d good in
     let first = bytesOf (length t) in
@@ -112,8 +106,7 @@ table-back t d f sound some good most =
     let z : 0 + length first ≡ length first = omega arith in
     let ends : ltb (length first + length (rowsBytes t)) (length (first ++ rowsBytes t)) ≡ false =
     le-ltb (length first + length (rowsBytes t)) (length (first ++ rowsBytes t)) (omega arith) in
-    read-rest d (first ++ rowsBytes t) good count (good-count _ _ some most)
-    ∙ rw (z, all, ends) sound
+    rw (good, count, good-count _ _ some most, z, all, ends) sound
 
 -- a table that is stored reads back as the same table, wherever the columns hold its count
 pub stored-back : (c : Columns) (count : ℕ) {t : List Row} (d : Columns) → ((i : ℕ) → getD (c .id) i 0 ≤ greatest)
@@ -129,7 +122,7 @@ stored-back c count {t} d h e good most =
 -- ## Read, then stored
 
 -- as many rows are read as the count says
-pub rows-count : (n : ℕ) (bytes : List ℕ) (at : ℕ) (s : Rows) → rowsAt n bytes at ≡ answer s → length (s .rows) ≡ n
+rows-count : (n : ℕ) (bytes : List ℕ) (at : ℕ) (s : Rows) → rowsAt n bytes at ≡ answer s → length (s .rows) ≡ n
 unfolding rowsAt
 rows-count zero bytes at s e = rw (← (same-answer e))
 rows-count (suc n) bytes at s e =

@@ -4,25 +4,25 @@ use mathlib.Core.Bool.{Bool, true, false, cond, _||_}
 use mathlib.Core.List.{List}
 use Prim.Native.Nat.{ℕ, _+_, _*_, _≤_}
 use native.Mathlib.Omega.{arith}
-use lib.Dec.{eqb, ltb}
+use lib.Dec.{eqb}
 use lib.ListN.{length, length-append}
 use Rattle.rules.specs.Answers.{Answer, answer, refused, then}
 use Rattle.rules.specs.Limits.{greatest, mostRows}
 use Rattle.rules.specs.Buffers.{room, written}
-use Rattle.rules.proofs.Answers.{same-answer, never-refused, peel, then-answer}
-use Rattle.number.specs.Number.{numberAt, bytesOf}
+use Rattle.rules.proofs.Answers.{same-answer, never-refused, peel}
+use Rattle.number.specs.Number.{bytesOf}
 use Rattle.number.proofs.Laws.{number-count}
 use Rattle.table.specs.Columns.{Row, Columns, counted}
-use Rattle.table.specs.Check.{lengthsBad, countBad, checked}
+use Rattle.table.specs.Check.{lengthsBad, checked}
 use Rattle.fresh.specs.Fresh.{freshRows}
-use Rattle.table.proofs.Lengths.{lengths-good, count-good}
-use Rattle.table.proofs.Passing.{check-passed, good-rows}
+use Rattle.table.proofs.Lengths.{lengths-good}
+use Rattle.table.proofs.Passing.{check-passed}
 use Rattle.table.proofs.Rows.{rows-length}
 use Rattle.refine.specs.Refine.{refined}
 use Rattle.refine.proofs.Fitting.{refined-most}
-use Rattle.stored.specs.Stored.{rowsAt, rowsToEnd, readRows, rowsBytes, tableBytes, storeAnswer}
+use Rattle.stored.specs.Stored.{readRows, rowsBytes, tableBytes, storeAnswer}
 use Rattle.stored.proofs.Bytes.{rows-most}
-use Rattle.stored.proofs.Laws.{rows-count}
+use Rattle.stored.proofs.Laws.{read-found}
 use Rattle.zintukor.specs.inside.Small.{Small}
 
 -- what a small answer holds
@@ -54,16 +54,7 @@ refined-small c count bytes = counted-small _ (refined-most c count bytes)
 -- ## Reading: as many rows as the count says
 
 read-most : (c : Columns) (bytes : List ℕ) (t : List Row) → readRows c bytes ≡ answer t → length t ≤ mostRows
-unfolding readRows rowsToEnd
-read-most c bytes t e =
-    let a = peel (lengthsBad c) _ _ e in
-    let n = then-answer (numberAt bytes 0) _ (a .1) in
-    let b = peel (countBad (length (c .id)) (n .0 .value)) _ _ (n .2) in
-    let s = then-answer (rowsAt (n .0 .value) bytes (n .0 .next)) _ (b .1) in
-    let g = peel (ltb (s .0 .next) (length bytes)) _ _ (s .2) in
-    let r = good-rows (s .0 .rows) (g .1) .1 in
-    let k = rows-count (n .0 .value) bytes (n .0 .next) (s .0) (s .1) in
-    omega (arith, ap length r, count-good _ _ (b .0) .1, lengths-good c (a .0) .most)
+read-most c bytes t e = let r = read-found c bytes e in omega (arith, r .most, lengths-good c (r .lengths) .most)
 
 pub read-small : (c : Columns) (bytes : List ℕ) → Small (counted (readRows c bytes))
 read-small c bytes = counted-small _ (read-most c bytes)

@@ -6,11 +6,6 @@ use borrow.Author.Needs.{needs}
 use Rattle.zintukor.proofs.zintukor_refine.Statement.{statement}
 use Rattle.zintukor.proofs.zintukor_refine.Tie as tie
 
-returns : tie.Need-returns
-returns c =
-    let e = c .before .before .before .before .before .before .before .before .before .refine .ensures in
-    (c .counted-code .ensures ∙ ap countCode (e .0), e .1)
-
 pub zintukor-refine-spec : {M : Type 1} → statement M
 zintukor-refine-spec =
     tie.close
@@ -18,4 +13,4 @@ zintukor-refine-spec =
     (λ c κs. search needs)
     (λ c κs. rw (c .before .before .before .before .before .before .before .before .refine .ensures .0) (refined-small _ _ _))
     (λ c. search needs) (λ c. search needs) (λ c. search needs) (λ c. search needs)
-    returns)
+    (λ c. let e = c .before .before .before .before .before .before .before .before .before .refine .ensures in (c .counted-code .ensures ∙ ap countCode (e .0), e .1)))

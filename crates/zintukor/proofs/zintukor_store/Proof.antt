@@ -6,11 +6,6 @@ use borrow.Author.Needs.{needs}
 use Rattle.zintukor.proofs.zintukor_store.Statement.{statement}
 use Rattle.zintukor.proofs.zintukor_store.Tie as tie
 
-returns : tie.Need-returns
-returns c =
-    let e = c .before .before .before .store .ensures in
-    (c .written-code .ensures ∙ ap countCode (e .0), e .1)
-
 pub zintukor-store-spec : {M : Type 1} → statement M
 zintukor-store-spec =
     tie.close
@@ -18,4 +13,4 @@ zintukor-store-spec =
     (λ c κs. search needs)
     (λ c κs. rw (c .before .before .store .ensures .0) (store-small _ _ _))
     (λ c. search needs)
-    returns)
+    (λ c. let e = c .before .before .before .store .ensures in (c .written-code .ensures ∙ ap countCode (e .0), e .1)))
