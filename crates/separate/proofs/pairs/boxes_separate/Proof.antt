@@ -33,7 +33,7 @@ boxes-separate-spec =
     let t : tie.Then1 Inv-loop μ-loop = search in
     sym (certified _ _ _ (a .ranges-certified .ensures (t .if1 .taken)) (c .before .ranges-certified2 .ensures (c .if2 .taken))))
     (λ c. λ k h. absurd (omega arith))
-    (λ c κs. let h = inside c in (h .in-l, h .in-r, h .in-q))
+    (λ c κs. let h = inside c in (omega arith, omega arith, omega arith))
     (λ c.
     let p : tie.At-loop Inv-loop μ-loop = search in
     let t : tie.In-loop Inv-loop μ-loop = search in
