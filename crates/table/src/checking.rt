@@ -1,7 +1,6 @@
 // The check of the columns: 10, then 11 over all rows, 12 over all pairs, 13 over all pairs.
 ghost use mathlib.Core.Path.{_≡_};
 ghost use Rattle.rules.specs.Answers.{given};
-ghost use Rattle.rules.specs.Lent.{old};
 ghost use Rattle.table.specs.Columns.{rows};
 ghost use Rattle.table.specs.Check.{someRow, lengthsBad, countBad, valueBad, soundRows, checked};
 ghost use Rattle.table.specs.Says.{checkedSays};

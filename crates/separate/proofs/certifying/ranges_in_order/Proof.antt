@@ -1,7 +1,7 @@
 -- `separate::certifying::ranges_in_order` meets its contract. The loop's invariant: the ranges passed follow each other, and end before `past`.
 use mathlib.Core.Path.{sym}
 use mathlib.Core.Bool.{true≢false}
-use Prim.Native.Nat.{_-_, _≤_}
+use Prim.Native.Nat.{_-_}
 use native.Mathlib.Omega.{arith}
 use lib.ListN.{length}
 use Rattle.separate.proofs.Certificate.{Chain, chain-none, chain-more, chain-all}

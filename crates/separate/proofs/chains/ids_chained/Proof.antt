@@ -1,5 +1,5 @@
 -- `separate::chains::ids_chained` meets its contract. The loop's invariant: the ids passed are in their chains, and all differ.
-use mathlib.Core.Path.{refl, sym, _∙_}
+use mathlib.Core.Path.{refl, sym}
 use Prim.Native.Nat.{_-_}
 use native.Mathlib.Omega.{arith}
 use lib.ListN.{length}
