@@ -19,26 +19,38 @@ moved-not : (m : ℕ) (f : ℕ → ℕ) (k : ℕ) → (f k ≡ m → ⊥) → mo
 unfolding moved
 moved-not m f k e = rw (ne-eqb (f k) m e)
 
+module _ (m : ℕ) (f : ℕ → ℕ) (w : (k : ℕ) → k < suc m → f k < suc m) (d : (a b : ℕ) → a < b → b < suc m → f a ≡ f b → ⊥) where
+  moved-below : (k : ℕ) → k < m → moved m f k < m
+  moved-below k l =
+      by-eq (f k) m
+      (λ e. let x : f m ≡ m → ⊥ = λ z. d k m l (omega arith) (e ∙ sym z) in omega (arith, moved-there m f k e, w m (omega arith)))
+      (λ e. omega (arith, moved-not m f k e, w k (omega arith)))
+
+  moved-once : (a b : ℕ) → a < b → b < m → moved m f a ≡ moved m f b → ⊥
+  moved-once a b x y e =
+      by-eq (f a) m
+      (λ p. by-eq (f b) m
+      (λ q. d a b x (omega arith) (p ∙ sym q))
+      (λ q. d b m y (omega arith) (sym (sym (moved-there m f a p) ∙ e ∙ moved-not m f b q))))
+      (λ p. by-eq (f b) m
+      (λ q. d a m (omega arith) (omega arith) (sym (moved-not m f a p) ∙ e ∙ moved-there m f b q))
+      (λ q. d a b x (omega arith) (sym (moved-not m f a p) ∙ e ∙ moved-not m f b q)))
+
+  -- where the numbers below m are met, m and the last one are
+  met-more : ((i : ℕ) → i < m → (k : ℕ) × (k < m) × (moved m f k ≡ i)) → (i : ℕ) → i < suc m → (k : ℕ) × (k < suc m) × (f k ≡ i)
+  met-more met i h =
+      by-eq (f m) i
+      (λ e. (m, omega arith, e))
+      (λ e. by-eq i m
+      (λ z. last (met (f m) (omega (arith, w m (omega arith)))) z)
+      (λ z. other (met i (omega arith)) e))
+    where
+      last : (k : ℕ) × (k < m) × (moved m f k ≡ f m) → i ≡ m → (k : ℕ) × (k < suc m) × (f k ≡ i)
+      last (k, l, e) z = by-eq (f k) m (λ p. (k, omega arith, p ∙ sym z)) (λ p. absurd (d k m l (omega arith) (sym (moved-not m f k p) ∙ e)))
+
+      other : (k : ℕ) × (k < m) × (moved m f k ≡ i) → (f m ≡ i → ⊥) → (k : ℕ) × (k < suc m) × (f k ≡ i)
+      other (k, l, e) z = by-eq (f k) m (λ p. absurd (z (sym (moved-there m f k p) ∙ e))) (λ p. (k, omega arith, sym (moved-not m f k p) ∙ e))
+
 pub every-met : (n : ℕ) (f : ℕ → ℕ) → ((k : ℕ) → k < n → f k < n) → ((a b : ℕ) → a < b → b < n → f a ≡ f b → ⊥) → (i : ℕ) → i < n → (k : ℕ) × (k < n) × (f k ≡ i)
 every-met zero f w d i h = absurd (omega arith)
-every-met (suc m) f w d i h =
-    let there = moved-there m f in
-    let not = moved-not m f in
-    let below : (k : ℕ) → k < m → moved m f k < m = λ k l.
-    by-eq (f k) m
-    (λ e. let x : f m ≡ m → ⊥ = λ z. d k m l (omega arith) (e ∙ sym z) in omega (arith, there k e, w m (omega arith)))
-    (λ e. omega (arith, not k e, w k (omega arith))) in
-    let once : (a b : ℕ) → a < b → b < m → moved m f a ≡ moved m f b → ⊥ = λ a b x y e.
-    by-eq (f a) m
-    (λ p. by-eq (f b) m (λ q. d a b x (omega arith) (p ∙ sym q)) (λ q. d b m y (omega arith) (sym (sym (there a p) ∙ e ∙ not b q))))
-    (λ p. by-eq (f b) m (λ q. d a m (omega arith) (omega arith) (sym (not a p) ∙ e ∙ there b q)) (λ q. d a b x (omega arith) (sym (not a p) ∙ e ∙ not b q))) in
-    let met = every-met m (moved m f) below once in
-    by-eq (f m) i
-    (λ e. (m, omega arith, e))
-    (λ e. by-eq i m
-    (λ z.
-    let t = met (f m) (omega (arith, w m (omega arith))) in
-    by-eq (f (t .0)) m (λ p. (t .0, omega (arith, t .1), p ∙ sym z)) (λ p. absurd (d (t .0) m (t .1) (omega arith) (sym (not (t .0) p) ∙ t .2))))
-    (λ z.
-    let t = met i (omega arith) in
-    by-eq (f (t .0)) m (λ p. absurd (e (sym (there (t .0) p) ∙ t .2))) (λ p. (t .0, omega (arith, t .1), sym (not (t .0) p) ∙ t .2))))
+every-met (suc m) f w d i h = met-more m f w d (every-met m (moved m f) (moved-below m f w d) (moved-once m f w d)) i h
