@@ -1,2 +1,4 @@
 pub mod Certificate
+pub mod Chains
+pub mod Pairs
 pub mod Sorting

@@ -1,7 +1,9 @@
-// A quick test that no two ids of a column are equal, and that no two ranges of two columns meet: true is proved, false says nothing.
+// Whether ids differ two by two, and whether boxes are disjoint two by two.
 mod certifying;
+mod chains;
+mod pairs;
 mod sorting;
 mod widening;
 
-pub use certifying::ids_separate;
-pub use certifying::ranges_separate;
+pub use pairs::boxes_separate;
+pub use pairs::ids_separate;

@@ -1,7 +1,5 @@
 // Where an id stands in a column.
 ghost use mathlib.Core.Path.{_≡_};
-ghost use Prim.Native.Nat.{_≤_};
-ghost use lib.ListN.{length};
 ghost use Rattle.rules.specs.Lent.{old};
 ghost use Rattle.table.specs.Places.{placeOf};
 ghost use Rattle.table.specs.inside.Places.{Least};

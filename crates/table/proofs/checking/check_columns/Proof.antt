@@ -1,6 +1,7 @@
 -- `table::checking::check_columns` meets its contract: 10 for the lengths and the count, then the rows.
 use mathlib.Core.Path.{_≡_, sym, _∙_}
 use mathlib.Core.Bool.{false}
+use native.Mathlib.Omega.{arith}
 use denote.Ref.{now}
 use lib.ListN.{length}
 use Rattle.table.specs.Lent.{lentColumns}
@@ -25,5 +26,5 @@ check-columns-spec =
     (λ c. rw (sym (c .before .lengths-bad .ensures) ∙ c .if1 .taken))
     (λ c κs. search needs)
     (λ c. let e : tie.Else1 = search in rw (lengths e, sym (c .before .count-bad .ensures) ∙ c .if2 .taken))
-    (λ c κs. let e : tie.Else1 = search in holds-count (lengths-good _ (lengths e)) (count-good _ _ (count c) .1))
+    (λ c κs. let e : tie.Else1 = search in let g = count-good _ _ (count c) in holds-count (lengths-good _ (lengths e)) (omega (arith, g .0, g .1)))
     (λ c. let e : tie.Else1 = search in rw (lengths e, count (c .before)) (c .check-rows .ensures)))
