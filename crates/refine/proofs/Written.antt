@@ -26,11 +26,12 @@ use Rattle.table.specs.Places.{placeOf}
 use Rattle.table.proofs.Places.{place-in}
 use Rattle.table.proofs.Soundness.{check-sound}
 use Rattle.numbering.specs.Numbered.{leftNumbers, rightNumbers}
+use Rattle.judging.proofs.Accepting.{times-ids}
 use Rattle.refine.specs.Refine.{groupsOf, rowIn, rowFor, keptRow, keptRows, newRows, refineRows}
 use Rattle.refine.specs.inside.Placing.{placed, placedAll, HasRows, Bounded}
 use Rattle.refine.proofs.Lookup.{groups-length}
 use Rattle.refine.proofs.Placement.{valueAt, value-by-id, without-length, column-after}
-use Rattle.refine.proofs.Accepting.{passed, times-ids, place-row, quota-place}
+use Rattle.refine.proofs.Accepting.{passed, place-row, quota-place}
 
 -- what was written to the front of a column
 pub front-sets : (s vs : List ℕ) (n : ℕ) → length vs ≡ n → n ≤ length s → take n (sets s 0 vs) ≡ vs

@@ -1,23 +1,48 @@
 // Refine: the check, the request, the refusals 20 to 24, and then the rows.
 ghost use mathlib.Core.Path.{_≡_};
-ghost use lib.ListN.{length};
+ghost use Prim.Native.Nat.{_≤_};
+ghost use lib.ListN.{length, take};
 ghost use Rattle.rules.specs.Capacities.{entryCapacity};
 ghost use Rattle.rules.specs.Lent.{old, new};
 ghost use Rattle.table.specs.Columns.{counted, afterwards};
 ghost use Rattle.table.specs.Lent.{oldColumns, newColumns};
 ghost use Rattle.table.specs.Says.{countedSays};
+ghost use Rattle.judging.specs.Judging.{judgedIn, judgedSays};
 ghost use Rattle.refine.specs.Refine.{refined};
 ghost use Rattle.refine.specs.inside.Verdicts.{Settles};
-use crate::Judged;
 use crate::Verdict;
-use crate::judging::judge;
 use crate::placing::place;
+use judging::Judged;
+use judging::judge;
 use numbering::number_request;
 use request::RequestRead;
 use rules::ENTRY_CAPACITY;
 use table::Checked;
 use table::Counted;
 use table::check_columns;
+
+// 20 to 24, on the rows and the entries in use.
+fn judge_rows(
+    id: &[u32],
+    q: &[u32],
+    count: usize,
+    exploded: u32,
+    ids: &[u32],
+    entries: usize,
+    quota: u64,
+) -> Judged
+    requires { ⌜ (count ≤ length (now id)) × (count ≤ length (now q)) × (entries ≤ length (now ids)) ⌝ }
+    ensures { λ t. ⌜ judgedSays t ≡ judgedIn (take count (old id)) (take count (old q)) (length (old id)) exploded (take entries (old ids)) quota ⌝ }
+{
+    judge(
+        &id[..count],
+        &q[..count],
+        id.len(),
+        exploded,
+        &ids[..entries],
+        quota,
+    )
+}
 
 // 10 to 13, the request, and 20 to 24, without a write to the table. The work columns take the request's entries: ids, quotas, and the
 // quotas before each in L and in R.
@@ -52,7 +77,7 @@ fn judge_request(
                 upright: _,
                 entries,
                 quota,
-            } => match judge(id, q, count, exploded, &*ids, entries, quota) {
+            } => match judge_rows(id, q, count, exploded, &*ids, entries, quota) {
                 Judged::Refused(why) => Verdict::Refused(why),
                 Judged::Row(own) => Verdict::Accepted {
                     exploded,

@@ -1,8 +1,8 @@
--- `refine::judging::id_taken` meets its contract: each test is one of the definition's.
+-- `judging::judging::id_taken` meets its contract: each test is one of the definition's.
 use borrow.Author.Tests.{eq-eqb, ne-eqb, le-leb, lt-leb}
 use borrow.Author.Needs.{needs}
-use Rattle.refine.proofs.judging.id_taken.Statement.{statement}
-use Rattle.refine.proofs.judging.id_taken.Tie as tie
+use Rattle.judging.proofs.judging.id_taken.Statement.{statement}
+use Rattle.judging.proofs.judging.id_taken.Tie as tie
 
 pub id-taken-spec : {M : Type 1} → statement M
 id-taken-spec =

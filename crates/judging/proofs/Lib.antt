@@ -1,0 +1,3 @@
+pub mod Ids
+pub mod JudgingLaws
+pub mod Accepting

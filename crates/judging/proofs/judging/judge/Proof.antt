@@ -1,0 +1,69 @@
+-- `judging::judging::judge` meets its contract: 20 to 24 in their order.
+use mathlib.Core.Path.{sym, _∙_}
+use native.Mathlib.Omega.{arith}
+use denote.Ref.{now}
+use Rattle.judging.proofs.JudgingLaws.{no-group, not-one, clash, wrong-sum, no-rows, passes}
+use Rattle.judging.proofs.Ids.{times-most}
+use borrow.Author.Needs.{needs}
+use Rattle.judging.proofs.judging.judge.Statement.{statement}
+use Rattle.judging.proofs.judging.judge.Tie as tie
+
+pub judge-spec : {M : Type 1} → statement M
+judge-spec =
+    tie.close
+    (tie.spec
+    (λ c κs. search needs)
+    (λ c.
+    let p : tie.After-place-of = search in
+    let s : tie.Start = search in
+    no-group (now (s .args .id)) (now (s .args .q)) _ _ (now (s .args .ids)) _ (p .place-of .ensures) (c .if1 .taken))
+    (λ c κs. search needs)
+    (λ c.
+    let p : tie.After-place-of = search in
+    let b : tie.Else1 = search in
+    let s : tie.Start = search in
+    not-one (now (s .args .id)) (now (s .args .q)) _ _ (now (s .args .ids)) _ (p .place-of .ensures) (b .if1 .left) (c .before .times .ensures) (c .if2 .taken))
+    (λ c κs. search needs)
+    (λ c.
+    let p : tie.After-place-of = search in
+    let b : tie.Else1 = search in
+    let e : tie.Else2 = search in
+    let s : tie.Start = search in
+    clash (now (s .args .id)) (now (s .args .q)) _ _ (now (s .args .ids)) _ (p .place-of .ensures) (b .if1 .left) (e .before .times .ensures) (e .if2 .left)
+    (c .before .some-id-taken .ensures) (c .if3 .taken))
+    (λ c κs. search needs)
+    (λ c. search needs)
+    (λ c.
+    let p : tie.After-place-of = search in
+    let b : tie.Else1 = search in
+    let e : tie.Else2 = search in
+    let f : tie.Else3 = search in
+    let v : tie.After-value-at = search in
+    let s : tie.Start = search in
+    wrong-sum (now (s .args .id)) (now (s .args .q)) _ _ (now (s .args .ids)) _ (p .place-of .ensures) (b .if1 .left) (e .before .times .ensures) (e .if2 .left)
+    (f .before .some-id-taken .ensures) (f .if3 .left) (λ z. c .if4 .taken (z ∙ sym (v .value-at .ensures))))
+    (λ c. search needs)
+    (λ c.
+    let e : tie.Else2 = search in
+    let s : tie.Start = search in
+    omega (arith, times-most (s .args .exploded) (now (s .args .ids)), e .before .times .ensures, e .if2 .left))
+    (λ c.
+    let p : tie.After-place-of = search in
+    let b : tie.Else1 = search in
+    let e : tie.Else2 = search in
+    let f : tie.Else3 = search in
+    let v : tie.After-value-at = search in
+    let g : tie.Else4 = search in
+    let s : tie.Start = search in
+    no-rows (now (s .args .id)) (now (s .args .q)) _ _ (now (s .args .ids)) _ (p .place-of .ensures) (b .if1 .left) (e .before .times .ensures) (e .if2 .left)
+    (f .before .some-id-taken .ensures) (f .if3 .left) (g .if4 .left ∙ v .value-at .ensures) (c .if5 .taken))
+    (λ c.
+    let p : tie.After-place-of = search in
+    let b : tie.Else1 = search in
+    let e : tie.Else2 = search in
+    let f : tie.Else3 = search in
+    let v : tie.After-value-at = search in
+    let g : tie.Else4 = search in
+    let s : tie.Start = search in
+    passes (now (s .args .id)) (now (s .args .q)) _ _ (now (s .args .ids)) _ (p .place-of .ensures) (b .if1 .left) (e .before .times .ensures) (e .if2 .left)
+    (f .before .some-id-taken .ensures) (f .if3 .left) (g .if4 .left ∙ v .value-at .ensures) (c .if5 .left)))
