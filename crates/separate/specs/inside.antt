@@ -1,2 +1,3 @@
 pub mod Certificate
+pub mod Pairs
 pub mod Sorting

@@ -6,8 +6,8 @@ ghost use Prim.Native.Nat.{_≤_};
 ghost use lib.ListN.{length};
 ghost use Rattle.rules.specs.Capacities.{rowCapacity};
 ghost use Rattle.rules.specs.Lent.{old};
-ghost use Rattle.separate.specs.Separate.{IdsSeparate, RangesSeparate};
-ghost use Rattle.separate.specs.inside.Certificate.{Ranked, IdsInOrder, RangesInOrder};
+ghost use Rattle.separate.specs.Separate.{RangesSeparate};
+ghost use Rattle.separate.specs.inside.Certificate.{IdsSeparate, Ranked, IdsInOrder, RangesInOrder};
 use crate::sorting::row_of;
 use crate::sorting::sort;
 use crate::widening::long;
@@ -110,22 +110,19 @@ fn rank_rows(
     find_ranks(&keys, count, order, rank);
 }
 
-// True only where no two of the first `count` ids are equal. False says nothing: it is the answer for a count past the column
-// or past the work arrays too.
-pub fn ids_separate(id: &[u32], count: usize) -> bool
-    ensures { λ t. ⌜ (t ≡ true → IdsSeparate (old id) count) ⌝ }
+// True only where no two ids are equal. False says nothing: it is the answer for more ids than the work arrays hold too.
+pub(crate) fn ids_certified(ids: &[u32]) -> bool
+    ensures { λ t. ⌜ (t ≡ true → IdsSeparate (old ids) (length (old ids))) ⌝ }
 {
-    if id.len() < count {
-        return false;
-    }
+    let count = ids.len();
     if ROW_CAPACITY < count {
         return false;
     }
     let mut order = [0u32; ROW_CAPACITY];
     let mut rank = [0u32; ROW_CAPACITY];
-    rank_rows(id, count, &mut order, &mut rank);
+    rank_rows(ids, count, &mut order, &mut rank);
     if all_ranked(&order, &rank, count) {
-        return ids_in_order(id, &order, count);
+        return ids_in_order(ids, &order, count);
     }
     false
 }

@@ -7,3 +7,4 @@ pub mod Lengths
 pub mod Passing
 pub mod Soundness
 pub mod Certificate
+pub mod Separation

@@ -3,8 +3,8 @@ use mathlib.Core.Path.{_≡_, refl, ap₂}
 use mathlib.Core.Bool.{Bool, _||_}
 use Prim.Native.Nat.{ℕ, zero, suc}
 use Rattle.table.specs.Columns.{Row, Columns, rowAt, rowsFrom, rows}
-use Rattle.table.specs.Check.{someRow, somePair, sameId, rangesMeet}
-use Rattle.table.specs.inside.Pairs.{idsAlone, boxesAlone}
+use Rattle.table.specs.Check.{someRow, somePair, rangesMeet}
+use Rattle.table.specs.inside.Pairs.{boxesAlone}
 
 -- tests that agree on the rows of two columns
 module _ (c d : Columns) where
@@ -20,11 +20,6 @@ module _ (c d : Columns) where
   pair-alike p e i (suc n) = ap₂ _||_ (some-alike (p (rowAt c i)) (p (rowAt d i)) (e i) (suc i) n) (pair-alike p e (suc i) n)
 
 module _ (c : Columns) (n : ℕ) where
-  -- 12 goes by the ids
-  pub ids-alone : somePair sameId (rows (idsAlone (c .id)) n) ≡ somePair sameId (rows c n)
-  unfolding sameId
-  ids-alone = pair-alike (idsAlone (c .id)) c sameId (λ i j. refl) 0 n
-
   -- 13 goes by the boxes
   pub boxes-alone : somePair rangesMeet (rows (boxesAlone (c .l) (c .r) (c .q)) n) ≡ somePair rangesMeet (rows c n)
   unfolding rangesMeet

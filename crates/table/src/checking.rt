@@ -6,11 +6,11 @@ ghost use lib.ListN.{length};
 ghost use Rattle.rules.specs.Answers.{given};
 ghost use Rattle.rules.specs.Lent.{old};
 ghost use Rattle.table.specs.Columns.{rowAt, rows};
-ghost use Rattle.table.specs.Check.{someRow, somePair, lengthsBad, countBad, valueBad, sameId, rangesMeet, soundRows, checked};
+ghost use Rattle.table.specs.Check.{someRow, somePair, lengthsBad, countBad, valueBad, rangesMeet, soundRows, checked};
 ghost use Rattle.table.specs.Says.{checkedSays};
 ghost use Rattle.table.specs.Lent.{oldColumns, lentColumns};
 ghost use Rattle.table.specs.inside.Held.{Holds};
-ghost use Rattle.table.specs.inside.Pairs.{idsAlone, boxesAlone, NoPair};
+ghost use Rattle.table.specs.inside.Pairs.{boxesAlone};
 use crate::Checked;
 use boxes::Box;
 use rules::GREATEST;
@@ -62,36 +62,6 @@ fn some_value_bad(id: &[u32], l: &[u32], r: &[u32], q: &[u32], count: usize) -> 
     false
 }
 
-// 12: a row above row i has its id.
-fn id_above(id: &[u32], i: usize) -> bool
-    requires { ⌜ i < length (now id) ⌝ }
-    ensures { λ t. ⌜ t ≡ someRow (λ w. sameId w (rowAt (idsAlone (old id)) i)) (rows (idsAlone (old id)) i) ⌝ }
-{
-    let own = id[i];
-    let mut j = 0;
-    while j < i {
-        if id[j] == own {
-            return true;
-        }
-        j += 1;
-    }
-    false
-}
-
-fn some_ids_same(id: &[u32], count: usize) -> bool
-    requires { ⌜ count ≤ length (now id) ⌝ }
-    ensures { λ t. ⌜ t ≡ somePair sameId (rows (idsAlone (old id)) count) ⌝ }
-{
-    let mut i = 0;
-    while i < count {
-        if id_above(id, i) {
-            return true;
-        }
-        i += 1;
-    }
-    false
-}
-
 // 13: the ranges of row i meet those of a row above it.
 fn box_above(l: &[u32], r: &[u32], q: &[u32], i: usize) -> bool
     requires { ⌜ (i < length (now l)) × (i < length (now r)) × (i < length (now q)) ⌝ }
@@ -122,15 +92,12 @@ fn some_ranges_meet(l: &[u32], r: &[u32], q: &[u32], count: usize) -> bool
     false
 }
 
-// True only where no two rows have one id and no ranges of two rows meet; false says nothing.
+// True only where no ranges of two rows meet; false says nothing.
 fn no_pair(id: &[u32], l: &[u32], r: &[u32], q: &[u32], count: usize) -> bool
     requires { ⌜ someRow valueBad (rows (lentColumns id l r q) count) ≡ false ⌝ }
-    ensures { λ t. ⌜ (t ≡ true → NoPair (rows (oldColumns id l r q) count)) ⌝ }
+    ensures { λ t. ⌜ (t ≡ true → somePair rangesMeet (rows (oldColumns id l r q) count) ≡ false) ⌝ }
 {
     if count < MANY_ROWS {
-        return false;
-    }
-    if !ids_separate(id, count) {
         return false;
     }
     if !ranges_separate(l, q, count) {
@@ -147,11 +114,11 @@ fn check_rows(id: &[u32], l: &[u32], r: &[u32], q: &[u32], count: usize) -> Chec
     if some_value_bad(id, l, r, q, count) {
         return Checked::Refused(Refusal::RowValue);
     }
+    if !ids_separate(&id[..count]) {
+        return Checked::Refused(Refusal::RowIds);
+    }
     if no_pair(id, l, r, q, count) {
         return Checked::Sound;
-    }
-    if some_ids_same(id, count) {
-        return Checked::Refused(Refusal::RowIds);
     }
     if some_ranges_meet(l, r, q, count) {
         return Checked::Refused(Refusal::RowRanges);

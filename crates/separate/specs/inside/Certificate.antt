@@ -3,6 +3,7 @@ use Prim.Native.Nat.{ℕ, _+_, _≤_, _<_}
 use mathlib.Core.Path.{_≡_}
 use mathlib.Core.List.{List}
 use lib.ListN.{getD}
+use Rattle.separate.specs.Separate.{Separate}
 
 -- each row stands at its rank
 pub record Ranked (order rank : List ℕ) (count : ℕ) : Type 0 where
@@ -14,6 +15,9 @@ pub record InOrder (first past : ℕ → ℕ) (order : List ℕ) (n : ℕ) : Typ
   pub follows : (a b : ℕ) → a < b → b < n → past (getD order a 0) ≤ first (getD order b 0)
 
 -- an id is a range of one number
+abbrev pub IdsSeparate : List ℕ → ℕ → Type 0
+IdsSeparate id = Separate (λ i. getD id i 0) (λ i. getD id i 0 + 1)
+
 abbrev pub IdsInOrder : List ℕ → List ℕ → ℕ → Type 0
 IdsInOrder id = InOrder (λ i. getD id i 0) (λ i. getD id i 0 + 1)
 

@@ -1,18 +1,8 @@
--- What the loops over pairs of rows go by: ids for 12, boxes for 13; and what the certificate of `separate` shows of them.
+-- What the loops over pairs of rows go by for 13: boxes.
 use Prim.Native.Nat.{ℕ}
-use mathlib.Core.Path.{_≡_}
-use mathlib.Core.Bool.{false}
 use mathlib.Core.List.{List, []}
-use Rattle.table.specs.Columns.{Row, Columns, columns}
-use Rattle.table.specs.Check.{somePair, sameId, rangesMeet}
+use Rattle.table.specs.Columns.{Columns, columns}
 
--- columns with ids alone; with boxes alone
-abbrev pub idsAlone : List ℕ → Columns
-idsAlone id = columns id [] [] []
-
+-- columns with boxes alone
 abbrev pub boxesAlone : List ℕ → List ℕ → List ℕ → Columns
 boxesAlone l r q = columns [] l r q
-
-pub record NoPair (t : List Row) : Type 0 where
-  pub ids : somePair sameId t ≡ false
-  pub ranges : somePair rangesMeet t ≡ false

@@ -1,10 +1,12 @@
--- `table::checking::check_rows` meets its contract: 11, then the certificate, then 12, then 13.
+-- `table::checking::check_rows` meets its contract: 11, then 12, then the certificate, then 13.
 use mathlib.Core.Path.{_≡_, sym, _∙_}
-use mathlib.Core.Bool.{Bool}
+use mathlib.Core.Bool.{Bool, false, not}
+use lib.Seq.{length-take-le}
 use Rattle.table.specs.Columns.{Columns, rows}
 use Rattle.table.specs.Lent.{lentColumns}
-use Rattle.table.specs.Check.{somePair, sameId, rangesMeet, soundRows}
-use Rattle.table.proofs.Pairs.{ids-alone, boxes-alone}
+use Rattle.table.specs.Check.{someRow, somePair, valueBad, sameId, rangesMeet, soundRows}
+use Rattle.table.proofs.Pairs.{boxes-alone}
+use Rattle.table.proofs.Separation.{twelve}
 use borrow.Author.Needs.{needs}
 use Rattle.table.proofs.checking.check_rows.Statement.{statement}
 use Rattle.table.proofs.checking.check_rows.Tie as tie
@@ -12,9 +14,12 @@ use Rattle.table.proofs.checking.check_rows.Tie as tie
 abbrev cols : tie.Start → Columns
 cols s = let a = s .args in lentColumns (a .id) (a .l) (a .r) (a .q)
 
--- what a test of pairs says of the rows
-ids : {b : Bool} (c : tie.After-some-ids-same) → c .some-ids-same .result ≡ b → let s : tie.Start = search in somePair sameId (rows (cols s) (s .args .count)) ≡ b
-ids c e = let s : tie.Start = search in sym (ids-alone (cols s) (s .args .count)) ∙ sym (c .some-ids-same .ensures) ∙ e
+-- what the tests say of the rows
+values : (c : tie.Else1) → let s : tie.Start = search in someRow valueBad (rows (cols s) (s .args .count)) ≡ false
+values c = sym (c .before .some-value-bad .ensures) ∙ c .if1 .left
+
+ids : {b : Bool} (c : tie.After-ids-separate) → not (c .ids-separate .result) ≡ b → let s : tie.Start = search in somePair sameId (rows (cols s) (s .args .count)) ≡ b
+ids c e = let s : tie.Start = search in twelve (cols s) (s .args .count) (s .pre .in-id) (c .ids-separate .ensures) e
 
 ranges : {b : Bool} (c : tie.After-some-ranges-meet) → c .some-ranges-meet .result ≡ b → let s : tie.Start = search in somePair rangesMeet (rows (cols s) (s .args .count)) ≡ b
 ranges c e = let s : tie.Start = search in sym (boxes-alone (cols s) (s .args .count)) ∙ sym (c .some-ranges-meet .ensures) ∙ e
@@ -26,25 +31,20 @@ check-rows-spec =
     (tie.spec
     (λ c κs. search needs)
     (λ c. rw (sym (c .before .some-value-bad .ensures) ∙ c .if1 .taken))
-    (λ c κs. sym (c .before .some-value-bad .ensures) ∙ c .if1 .left)
+    (λ c. let s : tie.Start = search in sym (length-take-le _ _ (s .pre .in-id)))
+    (λ c κs. search needs)
+    (λ c. let e : tie.Else1 = search in rw (values e, ids (c .before) (c .if2 .taken)))
+    (λ c κs. let e : tie.Else1 = search in values e)
     (λ c.
-    let v : tie.After-some-value-bad = search in
     let e : tie.Else1 = search in
-    let n = c .before .no-pair .ensures (c .if2 .taken) in
-    rw (sym (v .some-value-bad .ensures) ∙ e .if1 .left, n .ids, n .ranges))
+    let f : tie.Else2 = search in
+    rw (values e, ids (f .before) (f .if2 .left), c .before .no-pair .ensures (c .if3 .taken)))
     (λ c κs. search needs)
     (λ c.
-    let v : tie.After-some-value-bad = search in
     let e : tie.Else1 = search in
-    rw (sym (v .some-value-bad .ensures) ∙ e .if1 .left, ids (c .before) (c .if3 .taken)))
-    (λ c κs. search needs)
+    let f : tie.Else2 = search in
+    rw (values e, ids (f .before) (f .if2 .left), ranges (c .before) (c .if4 .taken)))
     (λ c.
-    let v : tie.After-some-value-bad = search in
     let e : tie.Else1 = search in
-    let f : tie.Else3 = search in
-    rw (sym (v .some-value-bad .ensures) ∙ e .if1 .left, ids (f .before) (f .if3 .left), ranges (c .before) (c .if4 .taken)))
-    (λ c.
-    let v : tie.After-some-value-bad = search in
-    let e : tie.Else1 = search in
-    let f : tie.Else3 = search in
-    rw (sym (v .some-value-bad .ensures) ∙ e .if1 .left, ids (f .before) (f .if3 .left), ranges (c .before) (c .if4 .left))))
+    let f : tie.Else2 = search in
+    rw (values e, ids (f .before) (f .if2 .left), ranges (c .before) (c .if4 .left))))
