@@ -5,8 +5,12 @@ ghost use Rattle.rules.specs.Lent.{old};
 ghost use Rattle.judging.specs.Ids.{timesIn, someId};
 ghost use Rattle.judging.specs.Judging.{takenIn, judgedIn, judgedSays};
 use crate::Judged;
+use crate::collecting::others_differ;
 use rules::Refusal;
 use table::place_of;
+
+// The ids of fewer entries than these are sooner counted than sorted.
+const MANY_ENTRIES: usize = 32;
 
 // How often x stands in a column.
 fn times(column: &[u32], x: u32) -> usize
@@ -36,10 +40,15 @@ fn id_taken(id: &[u32], exploded: u32, ids: &[u32], x: u32) -> bool
     2 <= times(ids, x)
 }
 
-// 22: another entry's id is in the table or comes twice.
+// 22: another entry's id is in the table or comes twice. Where the quick test says nothing, the counts decide.
 fn some_id_taken(id: &[u32], exploded: u32, ids: &[u32]) -> bool
     ensures { λ t. ⌜ t ≡ someId (takenIn exploded (old id) (old ids)) (old ids) ⌝ }
 {
+    if MANY_ENTRIES <= ids.len() {
+        if others_differ(id, exploded, ids) {
+            return false;
+        }
+    }
     let mut i = 0;
     while i < ids.len() {
         if id_taken(id, exploded, ids, ids[i]) {

@@ -1,4 +1,5 @@
 // Judging: the refusals 20 to 24 of a request that was read, found without a write.
+mod collecting;
 mod judging;
 
 pub use judging::judge;

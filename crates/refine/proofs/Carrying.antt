@@ -27,13 +27,14 @@ use Rattle.table.specs.Check.{checked}
 use Rattle.table.specs.Places.{placeOf}
 use Rattle.judging.specs.Judging.{judgedIn}
 use Rattle.judging.proofs.Accepting.{judged-row}
+use Rattle.judging.proofs.CollectingLaws.{front-sets}
 use Rattle.numbering.specs.Numbered.{EntriesIn, leftNumbers, rightNumbers}
 use Rattle.refine.specs.Refine.{groupsOf, explodedRows, refined}
 use Rattle.refine.specs.inside.Placing.{placedAll, HasRows, Bounded, CanPlace}
 use Rattle.refine.specs.inside.Verdicts.{Settles}
 use Rattle.refine.specs.declared.Verdict.the-variants as verdict
 use Rattle.refine.proofs.Accepting.{passed, judged-rows}
-use Rattle.refine.proofs.Written.{front-sets, rows-counted, left-numbers, right-numbers, left-bounded, right-bounded, has-rows, columns-after}
+use Rattle.refine.proofs.Written.{rows-counted, left-numbers, right-numbers, left-bounded, right-bounded, has-rows, columns-after}
 
 -- a request that was read: its exploded id x, its m entries and all their quota z
 pub record Given (bytes : List ℕ) (x m z : ℕ) : Type 0 where

@@ -1,5 +1,4 @@
 -- `judging::judging::judge` meets its contract: 20 to 24 in their order.
-use mathlib.Core.Path.{sym, _∙_}
 use native.Mathlib.Omega.{arith}
 use denote.Ref.{now}
 use Rattle.judging.proofs.JudgingLaws.{no-group, not-one, clash, wrong-sum, no-rows, passes}
@@ -16,32 +15,28 @@ judge-spec =
     (λ c.
     let p : tie.After-place-of = search in
     let s : tie.Start = search in
-    no-group (now (s .args .id)) (now (s .args .q)) _ _ (now (s .args .ids)) _ (p .place-of .ensures) (c .if1 .taken))
+    no-group (now (s .args .id)) (now (s .args .q)) _ _ (now (s .args .ids)) _ (p .place-of .ensures) (omega arith))
     (λ c κs. search needs)
     (λ c.
     let p : tie.After-place-of = search in
-    let b : tie.Else1 = search in
     let s : tie.Start = search in
-    not-one (now (s .args .id)) (now (s .args .q)) _ _ (now (s .args .ids)) _ (p .place-of .ensures) (b .if1 .left) (c .before .times .ensures) (c .if2 .taken))
+    not-one (now (s .args .id)) (now (s .args .q)) _ _ (now (s .args .ids)) _ (p .place-of .ensures) (λ z. omega (arith, z)) (c .before .times .ensures) (λ z. omega (arith, z)))
     (λ c κs. search needs)
     (λ c.
     let p : tie.After-place-of = search in
-    let b : tie.Else1 = search in
     let e : tie.Else2 = search in
     let s : tie.Start = search in
-    clash (now (s .args .id)) (now (s .args .q)) _ _ (now (s .args .ids)) _ (p .place-of .ensures) (b .if1 .left) (e .before .times .ensures) (e .if2 .left)
+    clash (now (s .args .id)) (now (s .args .q)) _ _ (now (s .args .ids)) _ (p .place-of .ensures) (λ z. omega (arith, z)) (e .before .times .ensures) (omega arith)
     (c .before .some-id-taken .ensures) (c .if3 .taken))
     (λ c κs. search needs)
     (λ c. search needs)
     (λ c.
     let p : tie.After-place-of = search in
-    let b : tie.Else1 = search in
     let e : tie.Else2 = search in
     let f : tie.Else3 = search in
-    let v : tie.After-value-at = search in
     let s : tie.Start = search in
-    wrong-sum (now (s .args .id)) (now (s .args .q)) _ _ (now (s .args .ids)) _ (p .place-of .ensures) (b .if1 .left) (e .before .times .ensures) (e .if2 .left)
-    (f .before .some-id-taken .ensures) (f .if3 .left) (λ z. c .if4 .taken (z ∙ sym (v .value-at .ensures))))
+    wrong-sum (now (s .args .id)) (now (s .args .q)) _ _ (now (s .args .ids)) _ (p .place-of .ensures) (λ z. omega (arith, z)) (e .before .times .ensures) (omega arith)
+    (f .before .some-id-taken .ensures) (f .if3 .left) (λ z. omega (arith, z)))
     (λ c. search needs)
     (λ c.
     let e : tie.Else2 = search in
@@ -49,21 +44,15 @@ judge-spec =
     omega (arith, times-most (s .args .exploded) (now (s .args .ids)), e .before .times .ensures, e .if2 .left))
     (λ c.
     let p : tie.After-place-of = search in
-    let b : tie.Else1 = search in
     let e : tie.Else2 = search in
     let f : tie.Else3 = search in
-    let v : tie.After-value-at = search in
-    let g : tie.Else4 = search in
     let s : tie.Start = search in
-    no-rows (now (s .args .id)) (now (s .args .q)) _ _ (now (s .args .ids)) _ (p .place-of .ensures) (b .if1 .left) (e .before .times .ensures) (e .if2 .left)
-    (f .before .some-id-taken .ensures) (f .if3 .left) (g .if4 .left ∙ v .value-at .ensures) (c .if5 .taken))
+    no-rows (now (s .args .id)) (now (s .args .q)) _ _ (now (s .args .ids)) _ (p .place-of .ensures) (λ z. omega (arith, z)) (e .before .times .ensures) (omega arith)
+    (f .before .some-id-taken .ensures) (f .if3 .left) (omega arith) (omega arith))
     (λ c.
     let p : tie.After-place-of = search in
-    let b : tie.Else1 = search in
     let e : tie.Else2 = search in
     let f : tie.Else3 = search in
-    let v : tie.After-value-at = search in
-    let g : tie.Else4 = search in
     let s : tie.Start = search in
-    passes (now (s .args .id)) (now (s .args .q)) _ _ (now (s .args .ids)) _ (p .place-of .ensures) (b .if1 .left) (e .before .times .ensures) (e .if2 .left)
-    (f .before .some-id-taken .ensures) (f .if3 .left) (g .if4 .left ∙ v .value-at .ensures) (c .if5 .left)))
+    passes (now (s .args .id)) (now (s .args .q)) _ _ (now (s .args .ids)) _ (p .place-of .ensures) (λ z. omega (arith, z)) (e .before .times .ensures) (omega arith)
+    (f .before .some-id-taken .ensures) (f .if3 .left) (omega arith) (omega arith)))
