@@ -9,11 +9,15 @@ use native.Mathlib.Nat.{add-zero, add-suc, suc-add}
 use lib.ListN.{length, set, drop, length-map}
 use lib.Seq.{sets, sets-eq}
 use borrow.Author.Tests.{le-leb, lt-leb}
+use Rattle.rules.specs.Answers.{Answer, answer, refused}
 use Rattle.rules.specs.Limits.{greatest}
 use Rattle.request.specs.Entries.{Entry, quota}
 use Rattle.request.specs.Forest.{Forest, none, tree, Direction, preL}
 use Rattle.request.specs.Numbering.{whole, size}
-use Rattle.request.specs.inside.Work.{Work, enter, filled, directionBy}
+use Rattle.request.specs.Request.{Request}
+use Rattle.reading.specs.Work.{Work, enter, filled, workAfter}
+use Rattle.reading.specs.inside.Work.{directionBy}
+use Rattle.numbering.specs.Numbered.{EntriesIn}
 use Rattle.numbering.specs.inside.Boxed.{numbersOf}
 use Rattle.request.proofs.Numbering.{size-length}
 
@@ -37,8 +41,13 @@ module _ (of : Work → List ℕ) (f : Entry → ℕ)
 pub filled-ids : (w : Work) (t : Forest) → filled w 0 t .ids ≡ sets (w .ids) 0 (map (λ e. e .id) (preL t))
 filled-ids w t = filled-column (λ w. w .ids) (λ e. e .id) (λ w at e end sum. refl) w 0 t
 
-pub filled-quotas : (w : Work) (t : Forest) → filled w 0 t .quotas ≡ sets (w .quotas) 0 (map quota (preL t))
+filled-quotas : (w : Work) (t : Forest) → filled w 0 t .quotas ≡ sets (w .quotas) 0 (map quota (preL t))
 filled-quotas w t = filled-column (λ w. w .quotas) quota (λ w at e end sum. refl) w 0 t
+
+-- the work columns after a request was read have its entries' ids and quotas
+pub entries-after : (found : Answer Request) (w v : Work) → v ≡ workAfter found w → EntriesIn found (w .ids) (v .ids) (w .quotas) (v .quotas)
+entries-after (answer q) w v e = (ap (λ (u : Work). u .ids) e ∙ filled-ids w (q .trees), ap (λ (u : Work). u .quotas) e ∙ filled-quotas w (q .trees))
+entries-after (refused n) w v e = (ap (λ (u : Work). u .ids) e, ap (λ (u : Work). u .quotas) e)
 
 -- the numbers that the walk gave out stand at the front of a column, and what it had past them stays
 pub numbered : (s ys : List ℕ) (n : ℕ) (numbers : Direction → ℕ → Forest → List ℕ) (up : Bool) (t : Forest) → ys ≡ numbers (directionBy up) 0 t → whole t ≤ greatest

@@ -12,9 +12,10 @@ use Rattle.request.specs.Entries.{Entry, entry, quota}
 use Rattle.request.specs.Forest.{Forest, none, tree, Direction, upright, inverted, preL}
 use Rattle.request.specs.Numbering.{whole, size, upL, upR, downL, downR, lefts, rights}
 use Rattle.request.specs.Reading.{requestOf}
-use Rattle.request.specs.inside.Work.{Work, work, TreesIn, filled}
+use Rattle.reading.specs.Work.{Work, work, filled}
+use Rattle.reading.specs.inside.Work.{TreesIn}
 use Rattle.request.proofs.ReadLaws.{request-legal}
-use Rattle.request.proofs.Work.{Places, filled-back, filled-in, Received}
+use Rattle.reading.proofs.Work.{Places, filled-back, filled-in, Received}
 use Rattle.numbering.specs.Numbered.{leftNumbers, rightNumbers}
 use Rattle.numbering.specs.inside.Boxed.{forestIn, Held, numbersOf}
 use Rattle.numbering.proofs.NumberingLaws.{forest-back}

@@ -17,7 +17,8 @@ use Rattle.request.specs.Entries.{Entry, entry, quota}
 use Rattle.request.specs.Forest.{Forest, none, tree}
 use Rattle.request.specs.Numbering.{whole, size, lefts, rights, upL, upR, downL, downR}
 use Rattle.numbering.specs.inside.Corners.{cornerOf, innerOf}
-use Rattle.request.specs.inside.Work.{Work, work, TreesIn, directionBy}
+use Rattle.reading.specs.Work.{Work, work}
+use Rattle.reading.specs.inside.Work.{TreesIn, directionBy}
 use Rattle.numbering.specs.inside.Boxed.{treesOf, forestIn, Boxed, BoxedIn}
 use Rattle.rules.specs.Limits.{greatest}
 

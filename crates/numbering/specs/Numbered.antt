@@ -1,5 +1,5 @@
--- What numbering writes to the columns once a request was read: its entries in its order, each with its id, its quota, and its numbers in
--- a plane of the request's own, where l and r begin at 0.
+-- What numbering leaves in the columns: a request's entries in its order, each with its id, its quota, and its numbers in a plane of the
+-- request's own, where l and r begin at 0.
 use mathlib.Core.Path.{_≡_}
 use mathlib.Core.Bool.{cond}
 use mathlib.Core.List.{List, [], map}
@@ -9,18 +9,23 @@ use lib.Seq.{sets}
 use Rattle.rules.specs.Answers.{Answer, answer, refused}
 use Rattle.rules.specs.Limits.{greatest}
 use Rattle.rules.specs.Lent.{Lent, old, new}
-use Rattle.request.specs.Entries.{quota}
+use Rattle.request.specs.Entries.{Entry, quota}
 use Rattle.request.specs.Numbering.{whole, lefts, rights}
 use Rattle.request.specs.Request.{Request, entries}
+use Rattle.reading.specs.Work.{zeros}
 
 -- the values stand in a lent column from its first place on, and what it had past them stays
 abbrev pub Begins : Lent → List ℕ → Type 0
 Begins column values = new column ≡ sets (old column) 0 values
 
--- the columns then begin with the entries' ids and quotas (ids, quotas: as they were before; ids′, quotas′: after)
+-- a column of the entries after the call: it begins with what `f` has of each entry, and what it had past them stays; refused, every number is 0
+abbrev pub entriesAfter : (Entry → ℕ) → Answer Request → List ℕ → List ℕ
+entriesAfter f (answer q) column = sets column 0 (map f (entries q))
+entriesAfter f (refused n) column = zeros
+
+-- the entries' ids and quotas (ids, quotas: as they were before; ids′, quotas′: after)
 abbrev pub EntriesIn : Answer Request → (ids ids′ quotas quotas′ : List ℕ) → Type 0
-EntriesIn (answer q) ids ids′ quotas quotas′ = (ids′ ≡ sets ids 0 (map (λ e. e .id) (entries q))) × (quotas′ ≡ sets quotas 0 (map quota (entries q)))
-EntriesIn (refused n) ids ids′ quotas quotas′ = Unit {0}
+EntriesIn found ids ids′ quotas quotas′ = (ids′ ≡ entriesAfter (λ e. e .id) found ids) × (quotas′ ≡ entriesAfter quota found quotas)
 
 -- the quotas before each entry in L and in R; none are given out where all the quotas together pass the greatest number
 abbrev pub leftNumbers : Answer Request → List ℕ

@@ -5,16 +5,15 @@ ghost use lib.ListN.{length};
 ghost use Rattle.rules.specs.Lent.{old, new};
 ghost use Rattle.request.specs.Numbering.{lefts, rights};
 ghost use Rattle.request.specs.Reading.{requestOf};
-ghost use Rattle.request.specs.inside.Says.{requestSays};
-ghost use Rattle.request.specs.inside.Work.{summary};
+ghost use Rattle.reading.specs.Says.{requestSays, summary};
 ghost use Rattle.numbering.specs.Numbered.{Begins, EntriesIn, leftNumbers, rightNumbers};
 ghost use Rattle.numbering.specs.inside.Boxed.{Held, forestIn, numbersOf};
 use crate::trees::number_trees;
 use boxes::Box;
 use boxes::LValue;
 use boxes::RValue;
-use request::RequestRead;
-use request::read_request;
+use reading::RequestRead;
+use reading::read_request;
 use rules::ENTRY_CAPACITY;
 use rules::GREATEST;
 
@@ -88,7 +87,7 @@ fn number_read(
 }
 
 // A request's bytes, to its entries in their order: ids, quotas, and, where all the quotas together are at most the greatest number,
-// the quotas before each entry in L and in R.
+// the quotas before each entry in L and in R. Refused, every id and quota is 0, and `l` and `r` stay as they were.
 pub fn number_request(
     bytes: &[u8],
     ids: &mut [u32; ENTRY_CAPACITY],

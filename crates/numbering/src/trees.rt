@@ -4,7 +4,7 @@ ghost use Prim.Native.Nat.{_+_, _≤_};
 ghost use lib.ListN.{length};
 ghost use Rattle.rules.specs.Limits.{greatest};
 ghost use Rattle.request.specs.Numbering.{lefts, rights};
-ghost use Rattle.request.specs.inside.Work.{directionBy};
+ghost use Rattle.reading.specs.inside.Work.{directionBy};
 ghost use Rattle.numbering.specs.inside.Boxed.{BoxedIn, forestIn};
 ghost use Rattle.numbering.specs.inside.Corners.{cornerOf, innerOf};
 ghost use Rattle.rules.specs.Lent.{old, new};

@@ -16,7 +16,7 @@ use Rattle.request.specs.Numbering.{whole}
 use Rattle.request.specs.Request.{Request, entries, leftOf, rightOf}
 use Rattle.request.specs.Reading.{requestOf}
 use Rattle.request.specs.Acceptance.{accepted}
-use Rattle.request.specs.inside.Work.{Summary, summary}
+use Rattle.reading.specs.Says.{Summary, summary}
 use Rattle.request.proofs.Accepting.{request-accepted}
 use Rattle.request.proofs.Numbering.{size-length}
 use Rattle.request.proofs.ReadLaws.{request-read, request-legal}

@@ -15,7 +15,7 @@ use crate::placing::place;
 use judging::Judged;
 use judging::judge;
 use numbering::number_request;
-use request::RequestRead;
+use reading::RequestRead;
 use rules::ENTRY_CAPACITY;
 use table::Checked;
 use table::Counted;

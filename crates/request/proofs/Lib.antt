@@ -1,10 +1,8 @@
 pub mod Sums
 pub mod Trees
 pub mod Numbering
+pub mod TreeSteps
 pub mod ReadLaws
 pub mod Accepting
-pub mod Walking
-pub mod Parts
-pub mod Work
 pub mod Bytes
 pub mod Reversed

@@ -1,5 +1,5 @@
 -- What a request that was read promises.
-use mathlib.Core.Path.{_≡_, refl, ap, subst}
+use mathlib.Core.Path.{_≡_, refl, ap, sym, _∙_, subst}
 use mathlib.Core.Bool.{Bool, true, false}
 use mathlib.Core.List.{List}
 use Prim.Native.Nat.{ℕ, zero, suc, _+_, _≤_, _<_}
@@ -11,14 +11,16 @@ use Rattle.rules.specs.Answers.{answer}
 use Rattle.rules.specs.Limits.{greatest, mostEntries, greatestDepth}
 use Rattle.rules.specs.Buffers.{Bytes}
 use Rattle.rules.proofs.Answers.{same-answer, never-refused, peel, wanted, then-answer}
+use Rattle.rules.proofs.Cases.{by-lt}
 use Rattle.number.specs.Number.{Number, numberAt}
 use Rattle.number.proofs.Laws.{number-fits}
-use Rattle.request.specs.Entries.{Entry, entry, pick, oneAt, noQuota, times, Positive}
-use Rattle.request.specs.Forest.{Forest, none, tree, preL}
+use Rattle.request.specs.Entries.{entry, pick, oneAt, noQuota, times, Positive}
+use Rattle.request.specs.Forest.{none, preL}
 use Rattle.request.specs.Request.{Request, entries}
 use Rattle.request.specs.Legal.{depth, LegalTrees, Legal}
 use Rattle.request.specs.Reading.{positiveAt, EntryRead, entryAt, TreeRead, TreesRead, treesBy, treeBy, notFull, treeAt, treesAt, requestOf}
 use Rattle.request.proofs.Sums.{sum-append}
+use Rattle.request.proofs.TreeSteps.{beside, tree-full, tree-deep}
 
 pub positive-some : (bytes : List ℕ) (at : ℕ) {n : Number} → positiveAt bytes at ≡ answer n → 1 ≤ n .value
 unfolding positiveAt
@@ -74,10 +76,6 @@ deeper : (b : Bool) (c r room : ℕ) → c ≤ room → r ≤ suc room → pick 
 deeper true c r room h k = omega arith
 deeper false c r room h k = omega arith
 
--- a tree and the trees to its right
-abbrev pub beside : Entry → Forest → TreesRead → TreesRead
-beside e c r = record { trees = tree e c (r .trees); next = r .next; used = r .used }
-
 module _ (bytes : List ℕ) (room n used : ℕ) (e : EntryRead) (c r : TreesRead) where
   read-tree : (1 ≤ e .id) × (1 ≤ e .quota) → (Bytes bytes → (e .id ≤ greatest) × (e .quota ≤ greatest)) → used < mostEntries
       → ReadTrees bytes room (e .children) (used + 1) c → ReadTrees bytes (suc room) n (c .used) r
@@ -125,9 +123,11 @@ read-by bytes room below (suc n) at used e =
     rw (← (same-answer (r .2))) (read-first bytes room n at used (t .0) (r .0) below (t .1) (read-by bytes room below n (t .0 .next) (t .0 .used) (r .1)))
 
 pub read-trees : (room n : ℕ) (bytes : List ℕ) (at used : ℕ) {a : TreesRead} → treesAt room n bytes at used ≡ answer a → ReadTrees bytes room n used a
-unfolding treesAt treesBy treeBy
+unfolding treesAt treesBy
 read-trees zero zero bytes at used e = rw (← (same-answer e)) (read-none bytes 0 used at)
-read-trees zero (suc n) bytes at used e = never-refused (then-answer (notFull used) _ (then-answer (treeAt 0 bytes at used) _ e .1) .2)
+read-trees zero (suc n) bytes at used e =
+    let h = then-answer (treeAt 0 bytes at used) _ e .1 in
+    by-lt used mostEntries (λ l. never-refused (sym (tree-deep bytes 0 at used l refl) ∙ h)) (λ l. never-refused (sym (tree-full bytes 0 at used l) ∙ h))
 read-trees (suc room) n bytes at used e = read-by bytes room (λ m p k c. read-trees room m bytes p k) n at used e
 
 pub record ReadRequest (q : Request) : Type 0 where

@@ -6,4 +6,3 @@ pub mod Legal
 pub mod Bytes
 pub mod Reading
 pub mod Acceptance
-pub mod inside

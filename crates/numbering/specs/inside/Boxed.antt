@@ -10,7 +10,8 @@ use Rattle.boxes.specs.declared.Box.{Box}
 use Rattle.request.specs.Entries.{entry}
 use Rattle.request.specs.Forest.{Forest, none, tree, Direction}
 use Rattle.request.specs.Numbering.{whole, size}
-use Rattle.request.specs.inside.Work.{Work, work, TreesIn, directionBy}
+use Rattle.reading.specs.Work.{Work, work}
+use Rattle.reading.specs.inside.Work.{TreesIn, directionBy}
 
 -- the trees of the entries from an index up to another, `most` at most: their quotas, and where their subtrees end; ids are left out
 unfoldable pub treesOf : (most : ℕ) (quotas ends : List ℕ) (from to : ℕ) → Forest

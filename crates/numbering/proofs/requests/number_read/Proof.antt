@@ -5,32 +5,38 @@ use Prim.Native.Nat.{ℕ}
 use native.Mathlib.Omega.{arith}
 use lib.Seq.{sets}
 use denote.Ref.{now}
-use Rattle.request.specs.inside.Says.{requestSays}
-use Rattle.request.specs.inside.Work.{Work, work}
-use Rattle.request.proofs.Work.{Received, received, not-received}
-use Rattle.numbering.proofs.Columns.{filled-ids, filled-quotas}
+use Rattle.request.specs.Reading.{requestOf}
+use Rattle.reading.specs.Says.{requestSays}
+use Rattle.reading.specs.Work.{Work, work}
+use Rattle.reading.proofs.Work.{Received, received, not-received}
+use Rattle.numbering.proofs.Columns.{entries-after}
 use Rattle.numbering.proofs.Nameless.{held, lefts-back, rights-back}
+use Rattle.numbering.specs.Numbered.{EntriesIn}
 use borrow.Author.Needs.{needs}
 use Rattle.numbering.proofs.requests.number_read.Statement.{statement}
 use Rattle.numbering.proofs.requests.number_read.Tie as tie
 
--- a request that was read: the start, the work columns before and after, and what the reading says
-abbrev start : tie.After-known-told2 → tie.Start
-start k = k .before .before .before .before .before .before .before .before .before
+-- the start, and the work columns before and after the reading
+abbrev start : tie.After-read-request → tie.Start
+start d = d .before .before .before .before .before .before
 
-abbrev before : tie.After-known-told2 → Work
-before k = let a = start k .args in work (now (a .ids)) (now (a .quotas)) (now (a .ends)) (now (a .sums))
+abbrev before : tie.After-read-request → Work
+before d = let a = start d .args in work (now (a .ids)) (now (a .quotas)) (now (a .ends)) (now (a .sums))
 
-abbrev after : tie.After-known-told2 → Work
-after k = let l = k .before .before .before .read-request .last .1 in work (l .0) (l .1 .0) (l .1 .1 .0) (l .1 .1 .1 .0)
+abbrev after : tie.After-read-request → Work
+after d = let l = d .read-request .last .1 in work (l .0) (l .1 .0) (l .1 .1 .0) (l .1 .1 .1 .0)
 
+entries-at : (d : tie.After-read-request) → EntriesIn (requestOf (now (start d .args .bytes))) (before d .ids) (after d .ids) (before d .quotas) (after d .quotas)
+entries-at d = entries-after (requestOf (now (start d .args .bytes))) (before d) (after d) (d .read-request .ensures .1)
+
+-- what the reading says where it answers
 abbrev Read : tie.After-known-told2 → Type 0
-Read k = let g = k .before .exploded .given .0 in Received (now (start k .args .bytes)) (before k) (after k) (g .0) (g .1 .0) (g .1 .1 .0) (g .1 .1 .1 .0)
+Read k = let d = k .before .before .before in let g = k .before .exploded .given .0 in Received (now (start d .args .bytes)) (before d) (after d) (g .0) (g .1 .0) (g .1 .1 .0) (g .1 .1 .1 .0)
 
 read-at : (k : tie.After-known-told2) → Read k
 read-at k =
-    let d = k .before .before .before .read-request in
-    received (now (start k .args .bytes)) (before k) (after k) (sym (ap requestSays (k .before .exploded .given .1)) ∙ d .ensures .0) (d .ensures .1)
+    let d = k .before .before .before in
+    received (now (start d .args .bytes)) (before d) (after d) (sym (ap requestSays (k .before .exploded .given .1)) ∙ d .read-request .ensures .0) (d .read-request .ensures .1)
 
 pub number-read-spec : {M : Type 1} → statement M
 number-read-spec =
@@ -49,10 +55,9 @@ number-read-spec =
           (λ i. omega (arith, bytes .given i)) r lq le ls,
     ))
     (λ c.
-    let d = c .before .before .before .read-request in
-    let s = c .before .before .before .before .before .before .before .before .before in
-    let e = not-received (now (s .args .bytes)) (sym (ap requestSays (c .before .why .given .1)) ∙ d .ensures .0) in
-    (rw e, (rw e tt, (rw e, rw e))))
+    let d = c .before .before .before in
+    let e = not-received (now (start d .args .bytes)) (sym (ap requestSays (c .before .why .given .1)) ∙ d .read-request .ensures .0) in
+    (rw e, (entries-at d, (rw e, rw e))))
     (λ c.
     let k = c .before .before .before .before .before .before .before .before .before in
     let r = read-at k in
@@ -60,14 +65,13 @@ number-read-spec =
     let lq = c .before .before .before .before .before .before .before .number-entries-arg2 .given .0 in
     let le = c .before .before .before .before .before .number-entries-arg4 .given .0 in
     let ls = c .before .before .before .number-entries-arg6 .given .0 in
-    let d = k .before .before .before .read-request in
-    let t = r .request .trees in (
-      sym (ap requestSays (k .before .exploded .given .1)) ∙ d .ensures .0,
+    let d = k .before .before .before in (
+      sym (ap requestSays (k .before .exploded .given .1)) ∙ d .read-request .ensures .0,
       (
-        rw (r .is) (ap (λ (u : Work). u .ids) (r .written) ∙ filled-ids (before k) t, ap (λ (u : Work). u .quotas) (r .written) ∙ filled-quotas (before k) t),
+        entries-at d,
         (
-          c .number-entries .ensures .0 ∙ ap (λ (s : List ℕ). sets (now (start k .args .l)) 0 s) (lefts-back (λ i. omega (arith, bytes .given i)) r lq le ls),
-          c .number-entries .ensures .1 ∙ ap (λ (s : List ℕ). sets (now (start k .args .r)) 0 s) (rights-back (λ i. omega (arith, bytes .given i)) r lq le ls),
+          c .number-entries .ensures .0 ∙ ap (λ (s : List ℕ). sets (now (start d .args .l)) 0 s) (lefts-back (λ i. omega (arith, bytes .given i)) r lq le ls),
+          c .number-entries .ensures .1 ∙ ap (λ (s : List ℕ). sets (now (start d .args .r)) 0 s) (rights-back (λ i. omega (arith, bytes .given i)) r lq le ls),
         ),
       ),
     )))

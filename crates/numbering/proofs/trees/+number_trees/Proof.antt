@@ -13,7 +13,8 @@ use Rattle.rules.specs.Limits.{greatest}
 use Rattle.boxes.specs.declared.Box.{Box}
 use Rattle.boxes.proofs.Box.next_child.Reads as next-child-reads
 use Rattle.request.specs.Numbering.{lefts, rights, whole}
-use Rattle.request.specs.inside.Work.{work, directionBy}
+use Rattle.reading.specs.Work.{work}
+use Rattle.reading.specs.inside.Work.{directionBy}
 use Rattle.numbering.specs.inside.Boxed.{forestIn}
 use Rattle.numbering.proofs.NumberingLaws.{Numbers, Here, childOf, begins, here, done, never, child-is, left-is, corner-asks, corner-fits, part-length, boxed-in, moves, children-back}
 use Rattle.numbering.proofs.trees.corner.Reads as corner-reads

@@ -7,7 +7,7 @@ use lib.ListN.{length, getD, take}
 use denote.Ref.{now}
 use Rattle.rules.specs.Answers.{answer}
 use Rattle.request.specs.Request.{entries}
-use Rattle.request.specs.inside.Says.{requestSays}
+use Rattle.reading.specs.Says.{requestSays}
 use Rattle.table.specs.Check.{checked}
 use Rattle.table.specs.Columns.{Columns, columns, rows}
 use Rattle.table.proofs.Passing.{sound, unsound}

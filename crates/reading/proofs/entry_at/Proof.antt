@@ -1,15 +1,15 @@
--- `request::reading::entry_at` meets its contract: id, quota and number of children, and the first refusal met.
+-- `reading::entry_at` meets its contract: id, quota and number of children, and the first refusal met.
 use mathlib.Core.Path.{_≡_, sym, ap, _∙_}
 use mathlib.Core.List.{List}
 use Prim.Native.Nat.{ℕ}
 use denote.Ref.{now}
 use Rattle.number.specs.Number.{found}
 use Rattle.request.specs.Reading.{positiveAt}
 use Rattle.number.specs.Says.{drawnSays}
-use Rattle.request.proofs.Parts.{entry-no-id, entry-no-quota, entry-no-children, entry-found}
+use Rattle.reading.proofs.Parts.{entry-no-id, entry-no-quota, entry-no-children, entry-found}
 use borrow.Author.Needs.{needs}
-use Rattle.request.proofs.reading.entry_at.Statement.{statement}
-use Rattle.request.proofs.reading.entry_at.Tie as tie
+use Rattle.reading.proofs.entry_at.Statement.{statement}
+use Rattle.reading.proofs.entry_at.Tie as tie
 
 -- the places where id and quota are read
 abbrev id-of : tie.After-known-told4 → tie.After-known-told2

@@ -1,10 +1,10 @@
--- `request::reading::positive_at` meets its contract: the number that stands there, and 4 where it is 0.
+-- `reading::positive_at` meets its contract: the number that stands there, and 4 where it is 0.
 use mathlib.Core.Path.{sym, ap, _∙_}
 use Rattle.number.specs.Says.{drawnSays}
-use Rattle.request.proofs.Parts.{positive-refused, positive-zero, positive-found}
+use Rattle.reading.proofs.Parts.{positive-refused, positive-zero, positive-found}
 use borrow.Author.Needs.{needs}
-use Rattle.request.proofs.reading.positive_at.Statement.{statement}
-use Rattle.request.proofs.reading.positive_at.Tie as tie
+use Rattle.reading.proofs.positive_at.Statement.{statement}
+use Rattle.reading.proofs.positive_at.Tie as tie
 
 pub positive-at-spec : {M : Type 1} → statement M
 positive-at-spec =

@@ -1,5 +1,5 @@
 -- What the caller of `read_request` has in the work columns.
-use mathlib.Core.Path.{_≡_, refl, ap, sym, _∙_, subst}
+use mathlib.Core.Path.{_≡_, refl, ap, sym, _∙_}
 use mathlib.Core.Bool.{Bool}
 use mathlib.Core.List.{List}
 use Prim.Native.Nat.{ℕ, _+_, _≤_, _<_}
@@ -7,18 +7,18 @@ use native.Mathlib.Omega.{arith}
 use lib.ListN.{length, getD, length-set}
 use lib.Seq.{getD-set-same, getD-set-other}
 use Rattle.rules.specs.Answers.{Answer, answer, refused}
-use Rattle.rules.specs.Buffers.{Bytes}
-use Rattle.rules.specs.Capacities.{entryCapacity}
 use Rattle.rules.specs.Limits.{mostEntries}
 use Rattle.rules.proofs.Answers.{same-answer, never-refused, then-refused}
 use Rattle.request.specs.Forest.{Forest, none, tree, Direction, upright, inverted}
 use Rattle.request.specs.Numbering.{whole, size}
 use Rattle.request.specs.Request.{Request}
 use Rattle.request.specs.Legal.{LegalTrees}
 use Rattle.request.specs.Reading.{requestOf}
-use Rattle.request.specs.inside.Work.{Work, EntryIn, TreesIn, enter, filled, directionBy, isUpright, Summary, summary, RequestIn}
+use Rattle.reading.specs.Says.{isUpright, Summary, summary}
+use Rattle.reading.specs.Work.{Work, enter, filled, workAfter}
+use Rattle.reading.specs.inside.Work.{EntryIn, TreesIn, directionBy, RequestIn}
 use Rattle.request.proofs.Numbering.{size-length}
-use Rattle.request.proofs.ReadLaws.{request-read, request-legal}
+use Rattle.request.proofs.ReadLaws.{request-read}
 
 -- every work column has n places
 pub record Places (n : ℕ) (w : Work) : Type 0 where
@@ -132,7 +132,7 @@ pub record Received (bytes : List ℕ) (w v : Work) (exploded : ℕ) (up : Bool)
   pub quota-is : quota ≡ whole (request .trees)
 
 received-as : (bytes : List ℕ) (w v : Work) {x u z : ℕ} {up : Bool} (a : Answer Request) → requestOf bytes ≡ a
-    → answer (record { exploded = x; upright = up; entries = u; quota = z }) ≡ summary a → RequestIn a w v → Received bytes w v x up u z
+    → answer (record { exploded = x; upright = up; entries = u; quota = z }) ≡ summary a → v ≡ workAfter a w → Received bytes w v x up u z
 received-as bytes w v (refused n) k e h = never-refused (sym e)
 received-as bytes w v (answer q) k e h =
     let f = same-answer e in
@@ -152,16 +152,18 @@ received-as bytes w v (answer q) k e h =
 
 -- `read_request` answers a request
 pub received : (bytes : List ℕ) (w v : Work) {x u z : ℕ} {up : Bool} → answer (record { exploded = x; upright = up; entries = u; quota = z }) ≡ summary (requestOf bytes)
-    → RequestIn (requestOf bytes) w v → Received bytes w v x up u z
+    → v ≡ workAfter (requestOf bytes) w → Received bytes w v x up u z
 received bytes w v e h = received-as bytes w v (requestOf bytes) refl e h
-
--- its trees stand in the work columns
-pub received-trees : {bytes : List ℕ} {w v : Work} {x u z : ℕ} {up : Bool} → Bytes bytes → (r : Received bytes w v x up u z) → Places entryCapacity v
-    → TreesIn v 0 (r .request .trees)
-received-trees {bytes} {w} {v} b r p =
-    let t = r .request .trees in
-    rw (r .written) (filled-in w 0 t (filled-back w 0 t (subst (Places entryCapacity) (r .written) p)) (omega (arith, r .entries-are, r .entries-most)) (request-legal bytes b (r .is) .trees))
 
 -- `read_request` refuses
 pub not-received : (bytes : List ℕ) {n : ℕ} → refused n ≡ summary (requestOf bytes) → requestOf bytes ≡ refused n
 not-received bytes e = then-refused (requestOf bytes) _ (sym e)
+
+-- ## Where `read_parts` answers, it leaves the work columns as `read_request` does
+
+pub work-after : (bytes : List ℕ) (w v : Work) {s : Summary} → answer s ≡ summary (requestOf bytes) → RequestIn (requestOf bytes) w v → v ≡ workAfter (requestOf bytes) w
+work-after bytes w v e h = go (requestOf bytes) e h
+  where
+    go : (found : Answer Request) {s : Summary} → answer s ≡ summary found → RequestIn found w v → v ≡ workAfter found w
+    go (answer q) e h = h
+    go (refused n) e h = never-refused (sym e)

@@ -1,17 +1,17 @@
--- `request::reading::read_request` meets its contract: each part in its order, and the first refusal met.
+-- `reading::read_parts` meets its contract: each part in its order, and the first refusal met.
 use mathlib.Core.Path.{_≡_, sym, ap, _∙_}
 use mathlib.Core.List.{List}
 use Prim.Native.Nat.{ℕ}
 use denote.Ref.{now}
 use Rattle.number.specs.Number.{found, numberAt}
 use Rattle.number.specs.Says.{drawnSays}
 use Rattle.request.specs.Reading.{positiveAt}
-use Rattle.request.specs.inside.Says.{walkSays}
-use Rattle.request.proofs.Parts.{Begun, refusal, no-exploded, no-direction, odd-direction, no-count, no-trees, remain, read-whole}
-use Rattle.request.proofs.Walking.{walk-refused}
+use Rattle.reading.specs.inside.Says.{walkSays}
+use Rattle.reading.proofs.Parts.{Begun, refusal, no-exploded, no-direction, odd-direction, no-count, no-trees, remain, read-whole}
+use Rattle.reading.proofs.Walking.{walk-refused}
 use borrow.Author.Needs.{needs}
-use Rattle.request.proofs.reading.read_request.Statement.{statement}
-use Rattle.request.proofs.reading.read_request.Tie as tie
+use Rattle.reading.proofs.read_parts.Statement.{statement}
+use Rattle.reading.proofs.read_parts.Tie as tie
 
 -- the places where the exploded id, the direction and the number of trees are read
 abbrev id-of : tie.After-known-told4 → tie.After-known-told2
@@ -39,8 +39,8 @@ count-at : (c : tie.After-known-told6)
     → let x = c .before .trees .given .0 in let d = direction-of c .before in found (x .0) (x .1 .0) ≡ positiveAt (bytes (id-of d)) (d .before .direction .given .0 .1 .0)
 count-at c = sym (ap drawnSays (c .before .trees .given .1)) ∙ c .before .before .before .positive-at2 .ensures
 
-pub read-request-spec : {M : Type 1} → statement M
-read-request-spec =
+pub read-parts-spec : {M : Type 1} → statement M
+read-parts-spec =
     tie.close
     (tie.spec
     (λ c κs. search needs) (λ c. search needs) (λ c. search needs) (λ c κs. search needs) (λ c. search needs) (λ c. search needs)

@@ -9,11 +9,13 @@ use borrow.Author.Tests.{lt-ltb, le-ltb, eq-eqb, ne-eqb}
 use Rattle.rules.specs.Answers.{Answer, answer, refused}
 use Rattle.rules.specs.Limits.{greatestDepth}
 use Rattle.number.specs.Number.{found, numberAt}
 use Rattle.request.specs.Forest.{Forest}
 use Rattle.request.specs.Numbering.{whole, size}
 use Rattle.request.specs.Reading.{positiveAt, entryAt, TreesRead, treesAt, directionOf, requestOf}
-use Rattle.request.specs.inside.Work.{Work, walkEnd, Walked, isUpright, summary, RequestIn}
-use Rattle.request.proofs.Walking.{walk-found, used-size}
+use Rattle.reading.specs.Says.{isUpright, summary}
+use Rattle.reading.specs.Work.{Work}
+use Rattle.reading.specs.inside.Work.{walkEnd, Walked, RequestIn}
+use Rattle.reading.proofs.Walking.{walk-found, used-size}
 
 -- ## A number that may not be 0
 

@@ -1,4 +1,4 @@
--- `request::reading::read_trees` meets its contract. The loop's invariant: the trees that are left, from here, make the whole, and those that
+-- `reading::read_trees` meets its contract. The loop's invariant: the trees that are left, from here, make the whole, and those that
 -- are done are written to the work columns. The measure of the calls is the room for depths.
 use mathlib.Core.Path.{sym, ap, _∙_}
 use native.Mathlib.Omega.{arith}
@@ -8,15 +8,16 @@ use denote.Ref.{now}
 use Prim.Native.Nat.{ℕ, _<_}
 use borrow.Fn.Kinds.{In}
 use borrow.Fn.PlainCycle.{Measures, is, falls, and}
-use Rattle.request.specs.inside.Says.{entrySays, walkSays}
-use Rattle.request.specs.inside.Work.{work}
-use Rattle.request.proofs.Walking.{Reading, Inner, begin, refuse, ended, again, sum-bound, inner-found, walk-refused, tree-full, tree-deep, tree-cut, below-refused}
-use Rattle.request.proofs.reading.read_trees.Reads as read-trees
-use Rattle.request.proofs.reading.read_trees.Kinds as read-trees-kinds
-use Rattle.request.proofs.reading.+read_trees.Lts-read_trees as lts
-use Rattle.request.proofs.reading.entry_at.Reads as entry-at-reads
-use Rattle.request.proofs.reading.+read_trees.{statement}
-use Rattle.request.proofs.reading.+read_trees.Tie.{close}
+use Rattle.reading.specs.inside.Says.{entrySays, walkSays}
+use Rattle.reading.specs.Work.{work}
+use Rattle.reading.proofs.Walking.{Reading, Inner, begin, refuse, ended, again, sum-bound, inner-found, walk-refused}
+use Rattle.request.proofs.TreeSteps.{tree-full, tree-deep, tree-cut, below-refused}
+use Rattle.reading.proofs.read_trees.Reads as read-trees
+use Rattle.reading.proofs.read_trees.Kinds as read-trees-kinds
+use Rattle.reading.proofs.+read_trees.Lts-read_trees as lts
+use Rattle.reading.proofs.entry_at.Reads as entry-at-reads
+use Rattle.reading.proofs.+read_trees.{statement}
+use Rattle.reading.proofs.+read_trees.Tie.{close}
 
 abbrev μ-read-trees : Measures 5 read-trees-kinds.ps ℕ
 μ-read-trees κs a = a .1 .1 .1 .0

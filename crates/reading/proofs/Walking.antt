@@ -1,67 +1,24 @@
 -- A walk over child counts: trees from a position on, written to the work columns one after another.
 use mathlib.Core.Path.{_≡_, refl, ap, ap₂, sym, _∙_, subst}
 use mathlib.Core.List.{List}
-use Prim.Native.Nat.{ℕ, zero, suc, _+_, _-_, _*_, _≤_, _<_}
+use Prim.Native.Nat.{ℕ, _+_, _-_, _*_, _≤_, _<_}
 use native.Mathlib.Omega.{arith}
-use native.Mathlib.Numerals.{sub-one}
 use lib.ListN.{set}
 use lib.Seq.{set-comm}
-use borrow.Author.Tests.{lt-ltb, le-ltb}
 use Rattle.rules.specs.Answers.{Answer, answer, refused, then}
 use Rattle.rules.specs.Limits.{greatest, mostEntries}
 use Rattle.rules.specs.Buffers.{Bytes}
 use Rattle.rules.proofs.Answers.{same-answer, never-refused, then-refused}
 use Rattle.request.specs.Entries.{Entry, entry}
 use Rattle.request.specs.Forest.{Forest, none, tree}
 use Rattle.request.specs.Numbering.{whole, size}
 use Rattle.request.specs.Legal.{LegalTrees}
-use Rattle.request.specs.Reading.{entryAt, EntryRead, TreesRead, treesBy, treeBy, notFull, treeAt, treesAt}
-use Rattle.request.specs.inside.Work.{Work, work, enter, filled, WalkEnd, walkEnd, Walked}
-use Rattle.request.proofs.ReadLaws.{beside, read-trees}
+use Rattle.request.specs.Reading.{entryAt, TreesRead, treeAt, treesAt}
+use Rattle.reading.specs.Work.{Work, work, enter, filled}
+use Rattle.reading.specs.inside.Work.{WalkEnd, walkEnd, Walked}
+use Rattle.request.proofs.ReadLaws.{read-trees}
+use Rattle.request.proofs.TreeSteps.{beside, tree-below, trees-none, trees-more}
 use Rattle.request.proofs.Numbering.{size-length}
-
--- ## A tree, and trees
-
-module _ (bytes : List ℕ) where
-  pub tree-full : (room at used : ℕ) → mostEntries ≤ used → treeAt room bytes at used ≡ refused 7
-  unfolding treeBy notFull
-  tree-full zero at used l = rw (le-ltb used mostEntries l)
-  tree-full (suc room) at used l = rw (le-ltb used mostEntries l)
-
-  pub tree-deep : (room at used : ℕ) → used < mostEntries → room ≡ 0 → treeAt room bytes at used ≡ refused 5
-  unfolding treeBy notFull
-  tree-deep zero at used l z = rw (lt-ltb used mostEntries l)
-  tree-deep (suc room) at used l z = absurd (omega arith)
-
-  pub tree-cut : (room at used : ℕ) → used < mostEntries → (room ≡ 0 → ⊥) → {k : ℕ} → entryAt bytes at ≡ refused k → treeAt room bytes at used ≡ refused k
-  unfolding treeBy notFull
-  tree-cut zero at used l z e = absurd (z refl)
-  tree-cut (suc room) at used l z e = rw (lt-ltb used mostEntries l, e)
-
-  -- an entry, and the trees below it
-  tree-below : (room at used : ℕ) → used < mostEntries → (room ≡ 0 → ⊥) → {e : EntryRead} → entryAt bytes at ≡ answer e
-      → treeAt room bytes at used
-      ≡ then (treesAt (room - 1) (e .children) bytes (e .next) (used + 1)) (λ c. answer (record { root = entry (e .id) (e .quota); children = c .trees; next = c .next; used = c .used }))
-  unfolding treesAt treeBy notFull
-  tree-below zero at used l z e = absurd (z refl)
-  tree-below (suc room) at used l z e = rw (lt-ltb used mostEntries l, e, sub-one (suc room))
-
-  pub below-refused : (room at used : ℕ) → used < mostEntries → (room ≡ 0 → ⊥) → {e : EntryRead} → entryAt bytes at ≡ answer e → {k : ℕ}
-      → treesAt (room - 1) (e .children) bytes (e .next) (used + 1) ≡ refused k → treeAt room bytes at used ≡ refused k
-  below-refused room at used l z e h = tree-below room at used l z e ∙ rw h
-
-  pub trees-none : (room n at used : ℕ) → n ≤ 0 → treesAt room n bytes at used ≡ answer (record { trees = none; next = at; used = used })
-  unfolding treesAt treesBy
-  trees-none room zero at used h = refl
-  trees-none room (suc n) at used h = absurd (omega arith)
-
-  -- a first tree, and the others
-  pub trees-more : (room n at used : ℕ) → 0 < n
-      → treesAt room n bytes at used
-      ≡ then (treeAt room bytes at used) (λ t. then (treesAt room (n - 1) bytes (t .next) (t .used)) (λ r. answer (beside (t .root) (t .children) r)))
-  unfolding treesAt treesBy
-  trees-more room zero at used h = absurd (omega arith)
-  trees-more room (suc n) at used h = rw (sub-one (suc n))
 
 -- the trees that were read count on from `used`, up to the most entries
 pub used-size : (room n : ℕ) (bytes : List ℕ) (at used : ℕ) {t : TreesRead} → treesAt room n bytes at used ≡ answer t

@@ -1,18 +1,31 @@
-// A request's bytes, drawn into the work columns.
+// Reading a request: its bytes, drawn into work columns that hold its entries in their order.
 ghost use mathlib.Core.Path.{_≡_};
 ghost use Prim.Native.Nat.{_≤_};
 ghost use Rattle.rules.specs.Limits.{mostEntries};
 ghost use Rattle.number.specs.Says.{drawnSays};
 ghost use Rattle.request.specs.Reading.{positiveAt, entryAt, treesAt, requestOf};
-ghost use Rattle.request.specs.inside.Says.{entrySays, walkSays, requestSays};
-ghost use Rattle.request.specs.inside.Work.{oldWork, newWork, Walked, walkEnd, RequestIn, summary};
+ghost use Rattle.reading.specs.Says.{requestSays, summary};
+ghost use Rattle.reading.specs.Work.{oldWork, newWork, workAfter};
+ghost use Rattle.reading.specs.inside.Says.{entrySays, walkSays};
+ghost use Rattle.reading.specs.inside.Work.{Walked, walkEnd, RequestIn};
 ghost use Rattle.rules.specs.Lent.{old};
-use crate::RequestRead;
 use number::Drawn;
 use rules::ENTRY_CAPACITY;
 use rules::GREATEST_DEPTH;
 use rules::MOST_ENTRIES;
 use rules::Refusal;
+
+// A request as it is read; its entries stand in the work columns.
+pub enum RequestRead {
+    // Exploded id, whether the direction is upright, number of entries, and all their quota.
+    Request {
+        exploded: u32,
+        upright: bool,
+        entries: usize,
+        quota: u64,
+    },
+    Refused(Refusal),
+}
 
 // An entry as it is read.
 enum EntryDrawn {
@@ -125,7 +138,7 @@ fn read_trees(
 }
 
 // A request's bytes: exploded id, direction, number of trees, and the trees.
-pub fn read_request(
+fn read_parts(
     bytes: &[u8],
     ids: &mut [u32; ENTRY_CAPACITY],
     quotas: &mut [u32; ENTRY_CAPACITY],
@@ -171,6 +184,39 @@ pub fn read_request(
                     },
                 }
             }
+        },
+    }
+}
+
+// A request's bytes, to its entries in the work columns. Refused, every number there is 0.
+pub fn read_request(
+    bytes: &[u8],
+    ids: &mut [u32; ENTRY_CAPACITY],
+    quotas: &mut [u32; ENTRY_CAPACITY],
+    ends: &mut [usize; ENTRY_CAPACITY],
+    sums: &mut [u64; ENTRY_CAPACITY],
+) -> RequestRead
+    ensures { λ t. ⌜ requestSays t ≡ summary (requestOf (old bytes)) ⌝ }
+    ensures { λ t. ⌜ newWork ids quotas ends sums ≡ workAfter (requestOf (old bytes)) (oldWork ids quotas ends sums) ⌝ }
+{
+    match read_parts(bytes, &mut *ids, &mut *quotas, &mut *ends, &mut *sums) {
+        RequestRead::Refused(why) => {
+            *ids = [0; ENTRY_CAPACITY];
+            *quotas = [0; ENTRY_CAPACITY];
+            *ends = [0; ENTRY_CAPACITY];
+            *sums = [0; ENTRY_CAPACITY];
+            RequestRead::Refused(why)
+        }
+        RequestRead::Request {
+            exploded,
+            upright,
+            entries,
+            quota,
+        } => RequestRead::Request {
+            exploded,
+            upright,
+            entries,
+            quota,
         },
     }
 }

@@ -1,0 +1,3 @@
+pub mod Work
+pub mod Says
+pub mod inside
