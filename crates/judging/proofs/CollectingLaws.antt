@@ -55,13 +55,14 @@ others-most u [] = omega arith
 others-most u (x ∷ s) =
     elim (eqb u x) as (λ b. length (cond b (othersThan u s) (x ∷ othersThan u s)) ≤ suc (length s)) [ true ↦ omega (arith, others-most u s) | false ↦ omega (arith, others-most u s) ]
 
--- two collections, one behind the other
-pub collected-length : {a b s t w : List ℕ} {n m : ℕ} → Collects a 0 s t n → Collects b n t w m → length w ≡ length s
-collected-length {a} {b} {s} {t} {w} {n} f g = ap length (g .are) ∙ length-sets t n b ∙ ap length (f .are) ∙ length-sets s 0 a
+-- the array keeps its length
+pub collected-length : {a s t : List ℕ} {n m : ℕ} → Collects a n s t m → length t ≡ length s
+collected-length {a} {s} {t} {n} f = ap length (f .are) ∙ length-sets s n a
 
+-- two collections, one behind the other
 pub collected : {a b s t w : List ℕ} {n m : ℕ} → Collects a 0 s t n → Collects b n t w m → m ≤ length s → take m w ≡ a ++ b
 collected {a} {b} {s} {t} {w} {n} {m} f g h =
-    let lt : length t ≡ length s = ap length (f .are) ∙ length-sets s 0 a in
+    let lt = collected-length f in
     let front : take n t ≡ a = ap (take n) (f .are) ∙ front-sets s a n (omega (arith, f .end)) (omega (arith, f .end, g .end)) in
     let all : w ≡ (a ++ b) ++ drop (n + length b) t = g .are ∙ sets-eq b t n (omega (arith, g .end)) ∙ ap (λ y. (y ++ b) ++ drop (n + length b) t) front in
     let k : m ≡ length (a ++ b) = omega (arith, length-append a b, f .end, g .end) in

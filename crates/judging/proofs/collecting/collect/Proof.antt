@@ -31,7 +31,7 @@ collect-spec =
     let o : tie.At-loop Inv-loop μ-loop = search in
     let t : tie.In-loop Inv-loop μ-loop = search in
     ⊎-elim
-    (λ w. rw (w .1, w .2) (puts (o .loop .inv) (t .loop-test .taken) (w .0 .taken)))
-    (λ w. rw (w .1, w .2) (passes (o .loop .inv) (t .loop-test .taken) (w .0 .left)))
+    (λ w. rw (w .1, w .2) (puts (o .loop .inv) (t .loop-test .taken) (λ z. omega (arith, z, w))))
+    (λ w. rw (w .1, w .2) (passes (o .loop .inv) (t .loop-test .taken) (omega (arith, w))))
     (c .if1 .came))
     (λ c. done (c .before .loop .inv) (c .loop-test .left)))

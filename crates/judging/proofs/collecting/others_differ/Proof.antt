@@ -25,7 +25,7 @@ most c =
 held : (c : tie.After-collect2) → c .collect2 .result ≤ length (c .collect2 .last .1 .1 .1 .0)
 held c =
     let f : tie.After-collect = search in
-    omega (arith, most c, collected-length (f .collect .ensures) (c .collect2 .ensures))
+    omega (arith, most c, collected-length (f .collect .ensures), collected-length (c .collect2 .ensures))
 
 pub others-differ-spec : {M : Type 1} → statement M
 others-differ-spec =
