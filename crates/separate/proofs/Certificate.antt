@@ -1,73 +1,74 @@
--- What a certificate shows: no two rows meet.
+-- What a certificate shows: every two ranges are disjoint.
 use mathlib.Core.Path.{_≡_, ap, sym, _∙_}
 use mathlib.Core.Logic.{inl, inr}
 use mathlib.Core.List.{List}
 use Prim.Native.Nat.{ℕ, _+_, _≤_, _<_}
 use native.Mathlib.Omega.{arith}
 use lib.ListN.{getD}
+use borrow.Author.Count.{below-more}
 use Rattle.rules.proofs.Cases.{by-lt}
-use Rattle.separate.specs.Separate.{Separate}
-use Rattle.separate.specs.inside.Certificate.{Ranked, InOrder}
+use Rattle.boxes.proofs.Ranges.{clear-apart}
+use Rattle.separate.specs.inside.Certificate.{startAt, pastAt, InOrderTo, InOrder, AllApart}
+use Rattle.separate.proofs.Pigeonhole.{every-met}
 
--- the first rows stand at their ranks, and one more
-module _ (order rank : List ℕ) (count : ℕ) where
-  pub record RankedTo (i : ℕ) : Type 0 where
-    pub within : (j : ℕ) → j < i → getD rank j 0 < count
-    pub stands : (j : ℕ) → j < i → getD order (getD rank j 0) 0 ≡ j
-
-  pub ranked-none : RankedTo 0
-  ranked-none = record { within = λ j h. absurd (omega arith); stands = λ j h. absurd (omega arith) }
-
-  pub ranked-more : (i : ℕ) {k w : ℕ} → RankedTo i → k ≡ getD rank i 0 → k < count → w ≡ getD order k 0 → w ≡ i → RankedTo (i + 1)
-  ranked-more i p e h f g =
-      record {
-        within = λ j l. by-lt j i (p .within j) (λ m. let x : j ≡ i = omega arith in rw x (omega (arith, e, h)));
-        stands = λ j l. by-lt j i (p .stands j) (λ m. let x : j ≡ i = omega arith in rw x (ap (λ (n : ℕ). getD order n 0) (sym e) ∙ sym f ∙ g));
-      }
-
-  pub ranked-all : {i : ℕ} → RankedTo i → count ≤ i → Ranked order rank count
-  ranked-all p h = record { within = λ j k. p .within j (omega arith); stands = λ j k. p .stands j (omega arith) }
-
--- the first k rows of the order, which end at `end` or below
-module _ (first past : ℕ → ℕ) (order : List ℕ) where
+module _ (start size order : List ℕ) (count : ℕ) where
+  -- the first k rows of the order, which end at `end` or below
   pub record Chain (k end : ℕ) : Type 0 where
-    pub in-order : InOrder first past order k
-    pub ended : (a : ℕ) → a < k → past (getD order a 0) ≤ end
+    pub in-order : InOrderTo start size order count k
+    pub ended : (a : ℕ) → a < k → pastAt start size order a ≤ end
 
   pub chain-none : Chain 0 0
-  chain-none = record { in-order = record { follows = λ a b h k. absurd (omega arith) }; ended = λ a h. absurd (omega arith) }
+  chain-none =
+      record {
+        in-order = record { within = λ a h. absurd (omega arith); some = λ a h. absurd (omega arith); follows = λ b h. absurd (omega arith) };
+        ended = λ a h. absurd (omega arith);
+      }
 
   -- one row more, whose range begins at `own` and ends before `new`
-  pub chain-more : (k : ℕ) {end row own new : ℕ} → Chain k end → row ≡ getD order k 0 → own ≡ first row → end ≤ own → own ≤ new → past row ≡ new
-      → Chain (k + 1) new
-  chain-more k {end} {row} {own} {new} c at f h i e =
-      let begins : own ≡ first (getD order k 0) = f ∙ ap first at in
-      let ends : past (getD order k 0) ≡ new = ap past (sym at) ∙ e in
+  pub chain-more : (k : ℕ) {end row own new : ℕ} → Chain k end → row ≡ getD order k 0 → row < count → own ≡ getD start row 0 → end ≤ own
+      → own + getD size row 0 ≡ new → own < new → Chain (k + 1) new
+  chain-more k {end} {row} {own} {new} c at w f h e g =
+      let begins : startAt start order k ≡ own = ap (λ (n : ℕ). getD start n 0) (sym at) ∙ sym f in
+      let size-of : getD size (getD order k 0) 0 ≡ getD size row 0 = ap (λ (n : ℕ). getD size n 0) (sym at) in
       record {
         in-order =
             record {
-              follows = λ a b x y.
-                  by-lt b k (c .in-order .follows a b x)
-                  (λ z. let f : b ≡ k = omega arith in rw f (omega (arith, c .ended a (omega arith))));
+              within = below-more _ k (c .in-order .within) (omega arith);
+              some = below-more _ k (c .in-order .some) (omega arith);
+              follows = below-more _ k (c .in-order .follows) (λ a x. omega (arith, c .ended a x));
             };
-        ended = λ a x.
-            by-lt a k (λ y. omega (arith, c .ended a y)) (λ z. let f : a ≡ k = omega arith in rw f (omega arith));
+        ended = below-more _ k (λ a x. omega (arith, c .ended a x)) (omega arith);
       }
 
-  pub chain-all : {k end n : ℕ} → Chain k end → n ≤ k → InOrder first past order n
-  chain-all c h = record { follows = λ a b x y. c .in-order .follows a b x (omega arith) }
+  pub chain-all : {k end : ℕ} → Chain k end → count ≤ k → InOrder start size order count
+  chain-all c h =
+      let o = c .in-order in
+      record {
+        within = λ a x. o .within a (omega arith);
+        some = λ a x. o .some a (omega arith);
+        follows = λ b x. o .follows b (omega arith);
+      }
 
--- rows that stand at their ranks in such an order are apart
-pub separate : {first past : ℕ → ℕ} {order rank : List ℕ} {count : ℕ} → Ranked order rank count → InOrder first past order count → Separate first past count
-separate {first} {past} {order} {rank} {count} p o i j h k =
-    let h′ : i < count = omega arith in
-    let a = p .stands i h′ in
-    let b = p .stands j k in
-    by-lt (getD rank i 0) (getD rank j 0)
-    (λ x. inl (rw (a, b) at (o .follows (getD rank i 0) (getD rank j 0) x (p .within j k))))
-    (λ y. by-lt (getD rank j 0) (getD rank i 0)
-    (λ x. inr (rw (b, a) at (o .follows (getD rank j 0) (getD rank i 0) x (p .within i h′))))
-    (λ z.
-    let e : getD rank i 0 ≡ getD rank j 0 = omega arith in
-    let f : i ≡ j = sym a ∙ ap (λ (n : ℕ). getD order n 0) e ∙ b in
-    absurd (omega arith)))
+-- every row is in the order, since no row is in it twice
+pub in-order-apart : {start size order : List ℕ} {count : ℕ} → InOrder start size order count → AllApart start size count
+in-order-apart {start} {size} {order} {count} p j h i k =
+    let once : (a b : ℕ) → a < b → b < count → getD order a 0 ≡ getD order b 0 → ⊥ = λ a b x y e.
+    let s : startAt start order a ≡ startAt start order b = ap (λ (n : ℕ). getD start n 0) e in
+    omega (arith, p .some a (omega arith), p .follows b y a x) in
+    let met = every-met count (λ a. getD order a 0) (p .within) once in
+    let m = met i (omega arith) in
+    let n = met j h in
+    let a = m .0 in
+    let b = n .0 in
+    let x : startAt start order a ≡ getD start i 0 = ap (λ (r : ℕ). getD start r 0) (m .2) in
+    let y : startAt start order b ≡ getD start j 0 = ap (λ (r : ℕ). getD start r 0) (n .2) in
+    let z : getD size (getD order a 0) 0 ≡ getD size i 0 = ap (λ (r : ℕ). getD size r 0) (m .2) in
+    let w : getD size (getD order b 0) 0 ≡ getD size j 0 = ap (λ (r : ℕ). getD size r 0) (n .2) in
+    clear-apart _ _ _ _ (omega (arith, p .some a (m .1))) (omega (arith, p .some b (n .1)))
+    (by-lt a b
+    (λ l. inl (omega (arith, p .follows b (n .1) a l)))
+    (λ g. by-lt b a
+    (λ l. inr (omega (arith, p .follows a (m .1) b l)))
+    (λ l.
+    let e : a ≡ b = omega arith in
+    absurd (let f : i ≡ j = sym (m .2) ∙ ap (λ (r : ℕ). getD order r 0) e ∙ n .2 in omega arith))))

@@ -2,14 +2,12 @@
 use mathlib.Core.Path.{_≡_, refl, sym}
 use mathlib.Core.Bool.{true, false, not, and-false}
 use mathlib.Core.List.{List, [], _∷_}
-use mathlib.Core.Logic.{⊎-elim}
 use Prim.Native.Nat.{ℕ, zero, suc, _+_, _≤_, _<_}
 use native.Mathlib.Omega.{arith}
 use lib.Dec.{eqb}
 use lib.ListN.{length, getD}
 use borrow.Author.Tests.{eq-eqb, ne-eqb}
 use Rattle.separate.specs.Separate.{noneIs, allDiffer}
-use Rattle.separate.specs.inside.Certificate.{IdsSeparate}
 
 -- of the first n ids no two are equal
 abbrev pub Differ : List ℕ → ℕ → Type 0
@@ -38,6 +36,3 @@ two-same [] i j h k e = absurd (omega arith)
 two-same (x ∷ s) i zero h k e = absurd (omega arith)
 two-same (x ∷ s) zero (suc j) h k e = rw (some-is x s j (omega arith) e)
 two-same (x ∷ s) (suc i) (suc j) h k e = rw (two-same s i j (omega arith) (omega arith) e) (and-false (noneIs x s))
-
-pub certified : (s : List ℕ) → IdsSeparate s (length s) → allDiffer s ≡ true
-certified s c = all-differ s (λ j h i k e. ⊎-elim (λ x. omega arith) (λ x. omega arith) (c i j k h))

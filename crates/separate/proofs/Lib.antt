@@ -1,2 +1,4 @@
-pub mod Certificate
 pub mod Differing
+pub mod Disjoint
+pub mod Pigeonhole
+pub mod Certificate

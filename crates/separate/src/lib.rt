@@ -1,8 +1,8 @@
-// No two ids are equal: decided. No two ranges of two columns meet: true is proved, false says nothing.
+// Whether ids differ two by two, and whether boxes are disjoint two by two.
 mod certifying;
 mod pairs;
 mod sorting;
 mod widening;
 
-pub use certifying::ranges_separate;
+pub use pairs::boxes_separate;
 pub use pairs::ids_separate;

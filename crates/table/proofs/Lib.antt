@@ -1,10 +1,7 @@
 pub mod Rows
 pub mod Tests
-pub mod Pairs
-pub mod Meeting
+pub mod Separation
 pub mod Places
 pub mod Lengths
 pub mod Passing
 pub mod Soundness
-pub mod Certificate
-pub mod Separation

@@ -27,7 +27,7 @@ not-so false h = refl
 
 -- no row has it: every row lacks it
 module _ (c : Columns) (p : Row → Bool) where
-  pub none-each : (n : ℕ) → someRow p (rows c n) ≡ false → (i : ℕ) → i < n → p (rowAt c i) ≡ false
+  none-each : (n : ℕ) → someRow p (rows c n) ≡ false → (i : ℕ) → i < n → p (rowAt c i) ≡ false
   none-each n e i h = not-so (p (rowAt c i)) (λ k. true≢false (sym (some-found c i n p h k) ∙ e))
 
   each-none : (n : ℕ) → ((i : ℕ) → i < n → p (rowAt c i) ≡ false) → someRow p (rows c n) ≡ false
@@ -40,7 +40,7 @@ module _ (c : Columns) (p : Row → Row → Bool) where
   no-pair-each n e i j h k =
       none-each c (λ v. p v (rowAt c j)) j (not-so _ (λ b. true≢false (sym (pair-found c j n p k b) ∙ e))) i h
 
-  pub each-no-pair : (n : ℕ) → ((i j : ℕ) → i < j → j < n → p (rowAt c i) (rowAt c j) ≡ false) → somePair p (rows c n) ≡ false
+  each-no-pair : (n : ℕ) → ((i j : ℕ) → i < j → j < n → p (rowAt c i) (rowAt c j) ≡ false) → somePair p (rows c n) ≡ false
   each-no-pair zero f = no-pair-yet c p
   each-no-pair (suc n) f =
       rw (← add-one n)

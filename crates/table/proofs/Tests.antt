@@ -72,9 +72,6 @@ module _ (c : Columns) (i : ℕ) where
   pub none-all : (n : ℕ) (p : Row → Bool) → i ≤ n → n ≤ i → someRow p (rows c i) ≡ false → false ≡ someRow p (rows c n)
   none-all n p h k e = let f : i ≡ n = omega arith in sym (rw f at e)
 
-  pub no-pair-all : (n : ℕ) (p : Row → Row → Bool) → i ≤ n → n ≤ i → somePair p (rows c i) ≡ false → false ≡ somePair p (rows c n)
-  no-pair-all n p h k e = let f : i ≡ n = omega arith in sym (rw f at e)
-
 -- before the first row
 pub none-yet : (c : Columns) (p : Row → Bool) → someRow p (rows c 0) ≡ false
 unfolding someRow rowsFrom

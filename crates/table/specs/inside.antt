@@ -1,3 +1,2 @@
 pub mod Held
-pub mod Pairs
 pub mod Places

@@ -1,12 +1,11 @@
--- `table::checking::check_rows` meets its contract: 11, then 12, then the certificate, then 13.
+-- `table::checking::check_rows` meets its contract: 11, then 12, then 13.
 use mathlib.Core.Path.{_≡_, sym, _∙_}
 use mathlib.Core.Bool.{Bool, false, not}
 use lib.Seq.{length-take-le}
 use Rattle.table.specs.Columns.{Columns, rows}
 use Rattle.table.specs.Lent.{lentColumns}
 use Rattle.table.specs.Check.{someRow, somePair, valueBad, sameId, rangesMeet, soundRows}
-use Rattle.table.proofs.Pairs.{boxes-alone}
-use Rattle.table.proofs.Separation.{twelve}
+use Rattle.table.proofs.Separation.{twelve, thirteen}
 use borrow.Author.Needs.{needs}
 use Rattle.table.proofs.checking.check_rows.Statement.{statement}
 use Rattle.table.proofs.checking.check_rows.Tie as tie
@@ -19,10 +18,10 @@ values : (c : tie.Else1) → let s : tie.Start = search in someRow valueBad (row
 values c = sym (c .before .some-value-bad .ensures) ∙ c .if1 .left
 
 ids : {b : Bool} (c : tie.After-ids-separate) → not (c .ids-separate .result) ≡ b → let s : tie.Start = search in somePair sameId (rows (cols s) (s .args .count)) ≡ b
-ids c e = let s : tie.Start = search in twelve (cols s) (s .args .count) (s .pre .in-id) (c .ids-separate .ensures) e
+ids c = let s : tie.Start = search in twelve (cols s) (s .args .count) (s .pre) (c .ids-separate .ensures)
 
-ranges : {b : Bool} (c : tie.After-some-ranges-meet) → c .some-ranges-meet .result ≡ b → let s : tie.Start = search in somePair rangesMeet (rows (cols s) (s .args .count)) ≡ b
-ranges c e = let s : tie.Start = search in sym (boxes-alone (cols s) (s .args .count)) ∙ sym (c .some-ranges-meet .ensures) ∙ e
+boxes : {b : Bool} (c : tie.After-boxes-separate) → not (c .boxes-separate .result) ≡ b → let s : tie.Start = search in somePair rangesMeet (rows (cols s) (s .args .count)) ≡ b
+boxes c = let s : tie.Start = search in thirteen (cols s) (s .args .count) (s .pre) (c .boxes-separate .ensures)
 
 pub check-rows-spec : {M : Type 1} → statement M
 unfolding soundRows
@@ -31,20 +30,18 @@ check-rows-spec =
     (tie.spec
     (λ c κs. search needs)
     (λ c. rw (sym (c .before .some-value-bad .ensures) ∙ c .if1 .taken))
-    (λ c. let s : tie.Start = search in sym (length-take-le _ _ (s .pre .in-id)))
+    (λ c. sym (length-take-le _ _ (search)))
     (λ c κs. search needs)
     (λ c. let e : tie.Else1 = search in rw (values e, ids (c .before) (c .if2 .taken)))
-    (λ c κs. let e : tie.Else1 = search in values e)
-    (λ c.
-    let e : tie.Else1 = search in
-    let f : tie.Else2 = search in
-    rw (values e, ids (f .before) (f .if2 .left), c .before .no-pair .ensures (c .if3 .taken)))
+    (λ c. sym (length-take-le _ _ (search)))
+    (λ c. sym (length-take-le _ _ (search)))
+    (λ c. sym (length-take-le _ _ (search)))
     (λ c κs. search needs)
     (λ c.
     let e : tie.Else1 = search in
     let f : tie.Else2 = search in
-    rw (values e, ids (f .before) (f .if2 .left), ranges (c .before) (c .if4 .taken)))
+    rw (values e, ids (f .before) (f .if2 .left), boxes (c .before) (c .if3 .taken)))
     (λ c.
     let e : tie.Else1 = search in
     let f : tie.Else2 = search in
-    rw (values e, ids (f .before) (f .if2 .left), ranges (c .before) (c .if4 .left))))
+    rw (values e, ids (f .before) (f .if2 .left), boxes (c .before) (c .if3 .left))))
