@@ -11,7 +11,7 @@ ghost use Rattle.judging.specs.Judging.{judgedIn, judgedSays};
 ghost use Rattle.refine.specs.Refine.{refined};
 ghost use Rattle.refine.specs.inside.Verdicts.{Settles};
 use crate::Verdict;
-use crate::placing::place;
+use crate::placing::write_rows;
 use judging::Judged;
 use judging::judge;
 use numbering::number_request;
@@ -64,13 +64,7 @@ fn judge_request(
 {
     match check_columns(id, l, r, q, count) {
         Checked::Refused(why) => Verdict::Refused(why),
-        Checked::Sound => match number_request(
-            request,
-            &mut *ids,
-            &mut *quotas,
-            &mut *before_l,
-            &mut *before_r,
-        ) {
+        Checked::Sound => match number_request(request, ids, quotas, before_l, before_r) {
             RequestRead::Refused(why) => Verdict::Refused(why),
             RequestRead::Request {
                 exploded,
@@ -128,28 +122,22 @@ pub fn refine(
             old_r,
             entries,
         } => {
-            place(&mut *id, own, count, exploded, 0, &ids, &ids, entries);
-            place(
-                &mut *l,
-                own,
+            write_rows(
+                id,
+                l,
+                r,
+                q,
                 count,
                 exploded,
+                own,
                 old_l,
-                &ids,
-                &before_l,
-                entries,
-            );
-            place(
-                &mut *r,
-                own,
-                count,
-                exploded,
                 old_r,
-                &ids,
-                &before_r,
                 entries,
+                &ids,
+                &quotas,
+                &before_l,
+                &before_r,
             );
-            place(&mut *q, own, count, exploded, 0, &ids, &quotas, entries);
             Counted::Count(count + entries - 1)
         }
     }
