@@ -1,4 +1,5 @@
 pub mod Differing
+pub mod Chaining
 pub mod Disjoint
 pub mod Pigeonhole
 pub mod Certificate

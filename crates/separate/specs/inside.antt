@@ -1,3 +1,4 @@
 pub mod Certificate
+pub mod Chains
 pub mod Pairs
 pub mod Sorting

@@ -1,5 +1,6 @@
 // Whether ids differ two by two, and whether boxes are disjoint two by two.
 mod certifying;
+mod chains;
 mod pairs;
 mod sorting;
 mod widening;

@@ -6,7 +6,9 @@ ghost use Rattle.rules.specs.Lent.{old};
 ghost use Rattle.separate.specs.Separate.{allDiffer, boxesOf, allDisjoint};
 ghost use Rattle.separate.specs.inside.Pairs.{IdsAbove, BoxesAbove};
 use crate::certifying::ranges_certified;
+use crate::chains::ids_chained;
 use boxes::Box;
+use rules::ROW_CAPACITY;
 
 // One of the ids above the i-th is equal to it.
 fn id_above(ids: &[u32], i: usize) -> bool
@@ -24,10 +26,13 @@ fn id_above(ids: &[u32], i: usize) -> bool
     false
 }
 
-// No two ids are equal.
+// No two ids are equal. The pairs decide for more ids than the chains hold.
 pub fn ids_separate(ids: &[u32]) -> bool
     ensures { λ t. ⌜ t ≡ allDiffer (old ids) ⌝ }
 {
+    if ids.len() <= ROW_CAPACITY {
+        return ids_chained(ids);
+    }
     let mut i = 0;
     while i < ids.len() {
         if id_above(ids, i) {
