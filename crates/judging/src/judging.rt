@@ -10,7 +10,7 @@ use rules::Refusal;
 use table::place_of;
 
 // The ids of fewer entries than these are sooner counted than sorted.
-const MANY_ENTRIES: usize = 32;
+const MANY_ENTRIES: usize = 16;
 
 // How often x stands in a column.
 fn times(column: &[u32], x: u32) -> usize
