@@ -20,7 +20,7 @@ use Rattle.request.proofs.Sums.{quota-none}
 use Rattle.table.specs.Places.{indexFrom, placeOf}
 use Rattle.table.proofs.Places.{place-in}
 use Rattle.judging.specs.Ids.{timesIn, someId}
-use Rattle.judging.specs.Judging.{rowOf, takenIn, judgedIn}
+use Rattle.judging.specs.Judging.{ownRow, takenIn, judgedIn}
 
 -- the ids of some entries, or of some groups
 abbrev pub idsOf : List Entry → List ℕ
@@ -57,7 +57,7 @@ index-times i none x (y ∷ s) h =
     (λ e. rw (eq-eqb y x (sym e), eq-eqb x y e, ne-eqb i none (λ z. omega (arith, z)), le-leb 1 (1 + timesIn x s) (omega arith)))
     (λ e. rw (ne-eqb y x (λ z. e (sym z)), ne-eqb x y e) (index-times (suc i) none x s (omega arith) ∙ ap (λ n. not (leb 1 n)) (sym (zero-add (timesIn x s)))))
 
-row-times : (x : ℕ) (s : List ℕ) → eqb (rowOf s x) (length s) ≡ not (leb 1 (timesIn x s))
+row-times : (x : ℕ) (s : List ℕ) → eqb (ownRow s x) (length s) ≡ not (leb 1 (timesIn x s))
 unfolding placeOf
 row-times x s = rw (take-length s) (index-times 0 (length s) x s (omega arith))
 
@@ -82,7 +82,7 @@ index-quota x (e ∷ s) h =
     let n : times x s ≤ 1 = omega (arith, rw (ne-eqb x (e .id) z) at h) in
     rw (ne-eqb x (e .id) z, ne-eqb (e .id) x (λ y. z (sym y)), index-moves 0 (length s) x (idsOf s)) (omega (arith, index-quota x s n)))
 
-pub row-quota : (x : ℕ) (s : List Entry) → times x s ≤ 1 → quotaOf x s ≡ getD (map quota s) (rowOf (idsOf s) x) 0
+pub row-quota : (x : ℕ) (s : List Entry) → times x s ≤ 1 → quotaOf x s ≡ getD (map quota s) (ownRow (idsOf s) x) 0
 unfolding placeOf
 row-quota x s h = rw (take-length (idsOf s), length-map s (λ (e : Entry). e .id)) (index-quota x s h)
 
@@ -109,14 +109,14 @@ module _ (groups : List Entry) (distinct : Distinct groups) (room : ℕ) (a : Re
       (λ _. answer (placeOf (idsOf groups) (length groups) (a .exploded))))
 
 -- the row that is answered
-pub judged-row : (id q : List ℕ) (room u : ℕ) (ids : List ℕ) (sum : ℕ) {i : ℕ} → judgedIn id q room u ids sum ≡ answer i → (i ≡ rowOf id u) × (i < length id)
+pub judged-row : (id q : List ℕ) (room u : ℕ) (ids : List ℕ) (sum : ℕ) {i : ℕ} → judgedIn id q room u ids sum ≡ answer i → (i ≡ ownRow id u) × (i < length id)
 unfolding judgedIn
 judged-row id q room u ids sum e =
-    let a = peel (eqb (rowOf id u) (length id)) _ _ e in
+    let a = peel (eqb (ownRow id u) (length id)) _ _ e in
     let b = peel (not (eqb (timesIn u ids) 1)) _ _ (a .1) in
     let c = peel (someId (takenIn u id ids) ids) _ _ (b .1) in
-    let d = peel (not (eqb sum (getD q (rowOf id u) 0))) _ _ (c .1) in
+    let d = peel (not (eqb sum (getD q (ownRow id u) 0))) _ _ (c .1) in
     let f = peel (ltb room (length id + length ids - 1)) _ _ (d .1) in
     let is = same-answer (f .1) in
-    let z = eqb-false (rowOf id u) (length id) (a .0) in
+    let z = eqb-false (ownRow id u) (length id) (a .0) in
     (sym is, omega (arith, place-in id (length id) u (omega arith) .most))

@@ -11,9 +11,9 @@ use Rattle.judging.specs.Ids.{timesIn, someId}
 use Rattle.judging.specs.declared.Judged.{Judged}
 use Rattle.judging.specs.declared.Judged.the-variants as judged
 
--- where the id u stands among some ids, or their number where it doesn't
-abbrev pub rowOf : List ℕ → ℕ → ℕ
-rowOf id u = placeOf id (length id) u
+-- the row of the group u among the rows in use, or their number where it is not there
+abbrev pub ownRow : List ℕ → ℕ → ℕ
+ownRow id u = placeOf id (length id) u
 
 -- 22 for one entry's id x: it isn't the exploded id u, and it is in the table or comes twice
 abbrev pub takenIn : ℕ → (id ids : List ℕ) → ℕ → Bool
@@ -23,12 +23,12 @@ takenIn u id ids x = not (eqb x u) && (leb 1 (timesIn x id) || leb 2 (timesIn x 
 -- quota; the answer is the row of the exploded group u
 unfoldable pub judgedIn : (id q : List ℕ) (room u : ℕ) (ids : List ℕ) (sum : ℕ) → Answer ℕ
 judgedIn id q room u ids sum =
-    cond (eqb (rowOf id u) (length id)) (refused 20)
+    cond (eqb (ownRow id u) (length id)) (refused 20)
     (cond (not (eqb (timesIn u ids) 1)) (refused 21)
     (cond (someId (takenIn u id ids) ids) (refused 22)
-    (cond (not (eqb sum (getD q (rowOf id u) 0))) (refused 23)
+    (cond (not (eqb sum (getD q (ownRow id u) 0))) (refused 23)
     (cond (ltb room (length id + length ids - 1)) (refused 24)
-    (answer (rowOf id u))))))
+    (answer (ownRow id u))))))
 
 abbrev pub judgedSays : Judged → Answer ℕ
 judgedSays (judged.Row own) = answer own
