@@ -6,6 +6,7 @@ ghost use lib.ListN.{length};
 ghost use Rattle.rules.specs.Capacities.{rowCapacity};
 ghost use Rattle.rules.specs.Lent.{old};
 ghost use Rattle.separate.specs.inside.Certificate.{InOrder, AllApart};
+use crate::pairs::MANY_ROWS;
 use crate::sorting::FEW_ROWS;
 use crate::sorting::sort_few;
 use crate::sorting::sort_many;
@@ -38,11 +39,17 @@ fn ranges_in_order(start: &[u32], size: &[u32], order: &[u8; ROW_CAPACITY]) -> b
     true
 }
 
-// True only where every two ranges are disjoint. False says nothing: it is the answer for more rows than the work arrays hold too.
+// True only where every two ranges are disjoint. False says nothing: it is the answer for few rows, and for more than the work arrays
+// hold, too.
 pub(crate) fn ranges_certified(start: &[u32], size: &[u32]) -> bool
-    requires { ⌜ length (now start) ≤ length (now size) ⌝ }
     ensures { λ t. ⌜ (t ≡ true → AllApart (old start) (old size) (length (old start))) ⌝ }
 {
+    if size.len() < start.len() {
+        return false;
+    }
+    if start.len() < MANY_ROWS {
+        return false;
+    }
     if start.len() <= FEW_ROWS {
         let order = sort_few(start);
         return ranges_in_order(start, size, &order);

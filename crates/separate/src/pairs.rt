@@ -10,6 +10,9 @@ use crate::chains::ids_chained;
 use boxes::Box;
 use rules::ROW_CAPACITY;
 
+// Fewer rows than these are sooner compared two by two.
+pub(crate) const MANY_ROWS: usize = 8;
+
 // One of the ids above the i-th is equal to it.
 fn id_above(ids: &[u32], i: usize) -> bool
     requires { ⌜ i < length (now ids) ⌝ }
@@ -26,12 +29,14 @@ fn id_above(ids: &[u32], i: usize) -> bool
     false
 }
 
-// No two ids are equal. The pairs decide for more ids than the chains hold.
+// No two ids are equal. Where they are few, or more than the chains hold, the pairs decide.
 pub fn ids_separate(ids: &[u32]) -> bool
     ensures { λ t. ⌜ t ≡ allDiffer (old ids) ⌝ }
 {
-    if ids.len() <= ROW_CAPACITY {
-        return ids_chained(ids);
+    if MANY_ROWS <= ids.len() {
+        if ids.len() <= ROW_CAPACITY {
+            return ids_chained(ids);
+        }
     }
     let mut i = 0;
     while i < ids.len() {
@@ -64,13 +69,9 @@ fn box_above(l: &[u32], r: &[u32], q: &[u32], i: usize) -> bool
 pub fn boxes_separate(l: &[u32], r: &[u32], q: &[u32]) -> bool
     ensures { λ t. ⌜ t ≡ allDisjoint (boxesOf (old l) (old r) (old q)) ⌝ }
 {
-    if r.len() == l.len() {
-        if q.len() == l.len() {
-            if ranges_certified(l, q) {
-                if ranges_certified(r, q) {
-                    return true;
-                }
-            }
+    if ranges_certified(l, q) {
+        if ranges_certified(r, q) {
+            return true;
         }
     }
     let mut i = 0;

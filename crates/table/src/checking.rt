@@ -8,6 +8,7 @@ ghost use Rattle.table.specs.Says.{checkedSays};
 ghost use Rattle.table.specs.Lent.{oldColumns, lentColumns};
 ghost use Rattle.table.specs.inside.Held.{Holds};
 use crate::Checked;
+use boxes::Box;
 use rules::GREATEST;
 use rules::MOST_ROWS;
 use rules::Refusal;
@@ -29,15 +30,12 @@ pub fn count_bad(length: usize, count: usize) -> bool
     (count == 0) | (length < count)
 }
 
-// 11: a value 0, or a range past the greatest number.
+// 11: a value 0, or a range past the greatest number. A row's box is in the plane from 1 to that number.
 fn value_bad(id: u32, l: u32, r: u32, q: u32) -> bool
     ensures { λ t. ⌜ t ≡ valueBad (record { id = id; l = l; r = r; q = q }) ⌝ }
 {
-    let past = GREATEST as u64 + 1;
-    (id == 0)
-        | ((l == 0)
-            | ((r == 0)
-                | ((q == 0) | ((past < l as u64 + q as u64) | (past < r as u64 + q as u64)))))
+    let plane = Box::new(1, 1, GREATEST);
+    (id == 0) | ((q == 0) | !plane.contains(Box::new(l, r, q)))
 }
 
 fn some_value_bad(id: &[u32], l: &[u32], r: &[u32], q: &[u32], count: usize) -> bool

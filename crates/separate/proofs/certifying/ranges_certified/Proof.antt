@@ -10,6 +10,8 @@ pub ranges-certified-spec : {M : Type 1} → statement M
 ranges-certified-spec =
     tie.close
     (tie.spec
+    (λ c. λ e. absurd (true≢false (sym e)))
+    (λ c. λ e. absurd (true≢false (sym e)))
     (λ c κs. search needs) (λ c κs. search needs)
     (λ c. λ e. in-order-apart (c .ranges-in-order .ensures e))
     (λ c. λ e. absurd (true≢false (sym e)))

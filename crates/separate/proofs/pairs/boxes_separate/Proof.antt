@@ -30,14 +30,14 @@ boxes-separate-spec =
     (λ c κs. search needs) (λ c κs. search needs)
     (λ c.
     let a : tie.After-ranges-certified Inv-loop μ-loop = search in
-    let t : tie.Then3 Inv-loop μ-loop = search in
-    sym (certified _ _ _ (a .ranges-certified .ensures (t .if3 .taken)) (c .before .ranges-certified2 .ensures (c .if4 .taken))))
+    let t : tie.Then1 Inv-loop μ-loop = search in
+    sym (certified _ _ _ (a .ranges-certified .ensures (t .if1 .taken)) (c .before .ranges-certified2 .ensures (c .if2 .taken))))
     (λ c. λ k h. absurd (omega arith))
     (λ c κs. let h = inside c in (h .in-l, h .in-r, h .in-q))
     (λ c.
     let p : tie.At-loop Inv-loop μ-loop = search in
     let t : tie.In-loop Inv-loop μ-loop = search in
-    let a = c .before .box-above .ensures .meets (c .if5 .taken) in
+    let a = c .before .box-above .ensures .meets (c .if3 .taken) in
     sym (two-meet _ _ _ (a .0) (p .loop .i) (a .1) (inside t) (a .2)))
     (λ c.
     let t : tie.In-loop Inv-loop μ-loop = search in
@@ -49,5 +49,5 @@ boxes-separate-spec =
     omega arith)
     (λ c.
     let p : tie.At-loop Inv-loop μ-loop = search in
-    below-more _ _ (p .loop .inv) (c .before .box-above .ensures .clear (c .if5 .left)))
+    below-more _ _ (p .loop .inv) (c .before .box-above .ensures .clear (c .if3 .left)))
     (λ c. sym (all-disjoint _ _ _ (λ k h. c .before .loop .inv k (past-one _ _ _ _ (c .loop-test .left) h)))))

@@ -25,10 +25,10 @@ ids-separate-spec =
     (λ c.
     let p : tie.At-loop Inv-loop μ-loop = search in
     let t : tie.In-loop Inv-loop μ-loop = search in
-    let a = c .before .id-above .ensures .same (c .if2 .taken) in
+    let a = c .before .id-above .ensures .same (c .if3 .taken) in
     sym (two-same _ (a .0) (p .loop .i) (a .1) (t .loop-test .taken) (a .2)))
     (λ c. search needs) (λ c. search needs)
     (λ c.
     let p : tie.At-loop Inv-loop μ-loop = search in
-    below-more _ _ (p .loop .inv) (c .before .id-above .ensures .none (c .if2 .left)))
+    below-more _ _ (p .loop .inv) (c .before .id-above .ensures .none (c .if3 .left)))
     (λ c. sym (all-differ _ (λ k h. c .before .loop .inv k (omega arith)))))
