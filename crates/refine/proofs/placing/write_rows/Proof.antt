@@ -8,7 +8,10 @@ pub write-rows-spec : {M : Type 1} → statement M
 write-rows-spec =
     tie.close
     (tie.spec
-    (λ c κs. search needs) (λ c κs. search needs) (λ c κs. search needs) (λ c κs. search needs)
+    (λ c κs. let s : tie.Start = search in let w = s .pre in ((w .most, w .in-ids, w .in-ids), (w .id-rows, w .ids-bounded)))
+    (λ c κs. let s : tie.Start = search in let w = s .pre in ((w .most, w .in-ids, w .in-before-l), (w .l-rows, w .l-bounded)))
+    (λ c κs. let s : tie.Start = search in let w = s .pre in ((w .most, w .in-ids, w .in-before-r), (w .r-rows, w .r-bounded)))
+    (λ c κs. let s : tie.Start = search in let w = s .pre in ((w .most, w .in-ids, w .in-quotas), (w .q-rows, w .quotas-bounded)))
     (λ c. search needs) (λ c. search needs) (λ c. search needs) (λ c. search needs)
     (λ c.
     let i : tie.After-place = search in
