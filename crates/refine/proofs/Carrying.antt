@@ -5,8 +5,7 @@ use mathlib.Core.List.{List, [], _∷_, _++_, map, map-append}
 use Prim.Native.Nat.{ℕ, zero, suc, _+_, _-_, _≤_, _<_}
 use native.Mathlib.Omega.{arith}
 use lib.ListN.{length, getD, take, length-map}
-use lib.Seq.{sets, length-sets}
-use borrow.Author.Tests.{le-leb}
+use lib.Seq.{sets, length-sets, length-take-le}
 use Rattle.rules.specs.Answers.{Answer, answer, refused, then}
 use Rattle.rules.specs.Capacities.{entryCapacity}
 use Rattle.rules.specs.Limits.{greatest, mostEntries}
@@ -26,15 +25,16 @@ use Rattle.request.specs.Legal.{LegalNumber, LegalTrees}
 use Rattle.table.specs.Columns.{Row, Columns, columns, rows, counted, afterwards}
 use Rattle.table.specs.Check.{checked}
 use Rattle.table.specs.Places.{placeOf}
+use Rattle.judging.specs.Judging.{judgedIn}
+use Rattle.judging.proofs.Accepting.{judged-row}
+use Rattle.judging.proofs.CollectingLaws.{front-sets}
 use Rattle.numbering.specs.Numbered.{EntriesIn, leftNumbers, rightNumbers}
 use Rattle.refine.specs.Refine.{groupsOf, explodedRows, refined}
-use Rattle.refine.specs.inside.Ids.{timesIn}
-use Rattle.refine.specs.inside.Judging.{judgedIn}
 use Rattle.refine.specs.inside.Placing.{placedAll, HasRows, Bounded, CanPlace}
 use Rattle.refine.specs.inside.Verdicts.{Settles}
 use Rattle.refine.specs.declared.Verdict.the-variants as verdict
-use Rattle.refine.proofs.Accepting.{passed, times-rows, there, judged-is}
-use Rattle.refine.proofs.Written.{front-sets, rows-counted, left-numbers, right-numbers, left-bounded, right-bounded, has-rows, columns-after}
+use Rattle.refine.proofs.Accepting.{passed, judged-rows}
+use Rattle.refine.proofs.Written.{rows-counted, left-numbers, right-numbers, left-bounded, right-bounded, has-rows, columns-after}
 
 -- a request that was read: its exploded id x, its m entries and all their quota z
 pub record Given (bytes : List ℕ) (x m z : ℕ) : Type 0 where
@@ -129,28 +129,27 @@ module _ (c : Columns) (n : ℕ) (good : checked c n ≡ answer (rows c n)) {byt
   abbrev own : ℕ
   own = placeOf (c .id) n (g .request .exploded)
 
-  judged-of : judgedIn (c .id) (c .q) n x (take m ids′) z ≡ then (accepted (length (c .id)) (groupsOf (rows c n)) (g .request)) λ _. answer own
-  judged-of = rw (g .exploded-is, ids-front, g .quota-is) (judged-is c n good (g .request))
+  judged-of : judgedIn (take n (c .id)) (take n (c .q)) (length (c .id)) x (take m ids′) z ≡ then (accepted (length (c .id)) (groupsOf (rows c n)) (g .request)) λ _. answer own
+  judged-of = rw (g .exploded-is, ids-front, g .quota-is) (judged-rows c n good (g .request))
 
-  pub judged-refused : {k : ℕ} → refused k ≡ judgedIn (c .id) (c .q) n x (take m ids′) z → refined c n bytes ≡ refused k
+  pub judged-refused : {k : ℕ} → refused k ≡ judgedIn (take n (c .id)) (take n (c .q)) (length (c .id)) x (take m ids′) z → refined c n bytes ≡ refused k
   unfolding refined explodedRows
   judged-refused e = rw (good, g .is, then-refused (accepted (length (c .id)) (groupsOf (rows c n)) (g .request)) (λ _. own) (sym (e ∙ judged-of)))
 
-  module _ {i : ℕ} (e : answer i ≡ judgedIn (c .id) (c .q) n x (take m ids′) z) where
+  module _ {i : ℕ} (e : answer i ≡ judgedIn (take n (c .id)) (take n (c .q)) (length (c .id)) x (take m ids′) z) where
     found : (y : Request) × (accepted (length (c .id)) (groupsOf (rows c n)) (g .request) ≡ answer y) × (answer own ≡ answer i)
     found = then-answer (accepted (length (c .id)) (groupsOf (rows c n)) (g .request)) (λ _. answer own) (sym (e ∙ judged-of))
 
     ok : accepted (length (c .id)) (groupsOf (rows c n)) (g .request) ≡ answer (g .request)
     ok = found .1 ∙ ap answer (sym (request-accepted (length (c .id)) (groupsOf (rows c n)) (g .request) (found .1) .1))
 
-    inside : own < n
-    inside =
-        there c n good (g .request)
-        (le-leb 1 (timesIn (g .request .exploded) (take n (c .id)))
-        (omega (arith, times-rows c n good (g .request .exploded), request-accepted (length (c .id)) (groupsOf (rows c n)) (g .request) ok .0 .known)))
-
     own-is : i ≡ own
     own-is = sym (same-answer (found .2))
+
+    inside : own < n
+    inside =
+        let h = judged-row (take n (c .id)) (take n (c .q)) (length (c .id)) x (take m ids′) z (sym e) .1 in
+        omega (arith, own-is, h, length-take-le n (c .id) (passed c n good .most))
 
     module _ (l l′ r r′ : List ℕ) (hl : l′ ≡ sets l 0 (leftNumbers (requestOf bytes))) (hr : r′ ≡ sets r 0 (rightNumbers (requestOf bytes)))
         (ll : length l ≡ entryCapacity) (rl : length r ≡ entryCapacity) where

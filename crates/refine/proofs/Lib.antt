@@ -1,5 +1,4 @@
 pub mod Front
-pub mod JudgingLaws
 pub mod PlacingLaws
 pub mod Placement
 pub mod Accepting

@@ -7,9 +7,10 @@ use native.Mathlib.Numerals.{add-one}
 use lib.ListN.{length, getD, set, take, drop, length-set}
 use lib.Seq.{length-take-le}
 use borrow.Author.Tests.{eq-eqb, ne-eqb}
-use Rattle.refine.specs.inside.Ids.{timesIn}
+use Rattle.judging.specs.Ids.{timesIn}
 use Rattle.refine.specs.inside.Placing.{placed, HasRows}
-use Rattle.refine.proofs.Front.{front-length, front-end, front-step, count-here, count-past, times-most}
+use Rattle.judging.proofs.Ids.{times-most}
+use Rattle.refine.proofs.Front.{front-length, front-end, front-step, count-here, count-past}
 
 -- what is left to write, from entry i on, makes the whole column
 pub record Places (u own next base : ℕ) (ids values column₀ : List ℕ) (n : ℕ) (column : List ℕ) (row i : ℕ) : Type 0 where
@@ -28,7 +29,7 @@ module _ {u own next base : ℕ} {ids values column₀ : List ℕ} {n : ℕ} (lo
     own-fits h = let q = p in omega (arith, times-most u (drop i (take n ids)), front-length ids n i long)
 
     pub row-fits : i < n → (getD ids i 0 ≡ u → ⊥) → row < length column
-    row-fits h e = let q = p in omega (arith, count-past ids n i long u h e, times-most u (drop (i + 1) (take n ids)), front-length ids n (i + 1) long)
+    row-fits h e = let q = p in omega (arith, count-past ids n i long h u e, times-most u (drop (i + 1) (take n ids)), front-length ids n (i + 1) long)
 
     pub at-own : i < n → getD ids i 0 ≡ u → Places u own next base ids values column₀ n (set column own (base + getD values i 0)) row (i + 1)
     unfolding placed
@@ -39,7 +40,7 @@ module _ {u own next base : ℕ} {ids values column₀ : List ℕ} {n : ℕ} (lo
           inside = omega arith;
           same = m ∙ p .same;
           apart = p .apart;
-          room = omega (arith, count-here ids n i long u h e);
+          room = omega (arith, count-here ids n i long h u e);
           whole = rw (front-step ids n i long h, front-step values n i wide h, eq-eqb u (getD ids i 0) (sym e)) at (p .whole);
         }
 
@@ -52,7 +53,7 @@ module _ {u own next base : ℕ} {ids values column₀ : List ℕ} {n : ℕ} (lo
           inside = omega arith;
           same = m ∙ p .same;
           apart = omega arith;
-          room = omega (arith, count-past ids n i long u h e);
+          room = omega (arith, count-past ids n i long h u e);
           whole = rw (add-one row) (rw (front-step ids n i long h, front-step values n i wide h, ne-eqb u (getD ids i 0) (λ z. e (sym z))) at (p .whole));
         }
 

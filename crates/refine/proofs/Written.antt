@@ -1,10 +1,9 @@
 -- The four columns after an accepted request.
-use mathlib.Core.Path.{_≡_, refl, ap, sym, _∙_}
-use mathlib.Core.List.{List, [], _∷_, _++_, map}
+use mathlib.Core.Path.{_≡_, refl, sym, _∙_}
+use mathlib.Core.List.{List, [], _∷_, map}
 use Prim.Native.Nat.{ℕ, zero, suc, _+_, _-_, _≤_, _<_}
 use native.Mathlib.Omega.{arith}
-use lib.ListN.{length, getD, take, drop, length-append, length-map}
-use lib.Seq.{sets, sets-eq, take-append-seam}
+use lib.ListN.{length, getD, take, length-append, length-map}
 use borrow.Author.Tests.{le-leb}
 use Rattle.rules.specs.Answers.{answer}
 use Rattle.rules.specs.Limits.{greatest}
@@ -26,16 +25,12 @@ use Rattle.table.specs.Places.{placeOf}
 use Rattle.table.proofs.Places.{place-in}
 use Rattle.table.proofs.Soundness.{check-sound}
 use Rattle.numbering.specs.Numbered.{leftNumbers, rightNumbers}
+use Rattle.judging.proofs.Accepting.{times-ids}
 use Rattle.refine.specs.Refine.{groupsOf, rowIn, rowFor, keptRow, keptRows, newRows, refineRows}
 use Rattle.refine.specs.inside.Placing.{placed, placedAll, HasRows, Bounded}
 use Rattle.refine.proofs.Lookup.{groups-length}
 use Rattle.refine.proofs.Placement.{valueAt, value-by-id, without-length, column-after}
-use Rattle.refine.proofs.Accepting.{passed, times-ids, place-row, quota-place}
-
--- what was written to the front of a column
-pub front-sets : (s vs : List ℕ) (n : ℕ) → length vs ≡ n → n ≤ length s → take n (sets s 0 vs) ≡ vs
-front-sets s vs n e h =
-    ap (take n) (sets-eq vs s 0 (omega arith)) ∙ ap (λ m. take m (vs ++ drop (0 + length vs) s)) (sym e) ∙ take-append-seam vs (drop (0 + length vs) s)
+use Rattle.refine.proofs.Accepting.{passed, place-row, quota-place}
 
 -- a bound on what each entry has
 bounded-map : (f : Entry → ℕ) (b : ℕ) (s : List Entry) → ((e : Entry) → 1 ≤ times (e .id) s → f e ≤ b) → (k : ℕ) → k < length (map f s) → getD (map f s) k 0 ≤ b

@@ -1,4 +1,2 @@
-pub mod Ids
-pub mod Judging
 pub mod Placing
 pub mod Verdicts

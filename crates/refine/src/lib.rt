@@ -1,17 +1,9 @@
 // Refine: a group is exploded into the entries of a request.
-mod judging;
 mod placing;
 mod refining;
 
 pub use refining::refine;
 use rules::Refusal;
-
-// What a request that was read comes to.
-enum Judged {
-    // The row of the group that it explodes.
-    Row(usize),
-    Refused(Refusal),
-}
 
 // What a request to a table comes to.
 enum Verdict {

@@ -1,23 +1,48 @@
 // Refine: the check, the request, the refusals 20 to 24, and then the rows.
 ghost use mathlib.Core.Path.{_≡_};
-ghost use lib.ListN.{length};
+ghost use Prim.Native.Nat.{_≤_};
+ghost use lib.ListN.{length, take};
 ghost use Rattle.rules.specs.Capacities.{entryCapacity};
 ghost use Rattle.rules.specs.Lent.{old, new};
 ghost use Rattle.table.specs.Columns.{counted, afterwards};
 ghost use Rattle.table.specs.Lent.{oldColumns, newColumns};
 ghost use Rattle.table.specs.Says.{countedSays};
+ghost use Rattle.judging.specs.Judging.{judgedIn, judgedSays};
 ghost use Rattle.refine.specs.Refine.{refined};
 ghost use Rattle.refine.specs.inside.Verdicts.{Settles};
-use crate::Judged;
 use crate::Verdict;
-use crate::judging::judge;
-use crate::placing::place;
+use crate::placing::write_rows;
+use judging::Judged;
+use judging::judge;
 use numbering::number_request;
 use reading::RequestRead;
 use rules::ENTRY_CAPACITY;
 use table::Checked;
 use table::Counted;
 use table::check_columns;
+
+// 20 to 24, on the rows and the entries in use.
+fn judge_rows(
+    id: &[u32],
+    q: &[u32],
+    count: usize,
+    exploded: u32,
+    ids: &[u32],
+    entries: usize,
+    quota: u64,
+) -> Judged
+    requires { ⌜ (count ≤ length (now id)) × (count ≤ length (now q)) × (entries ≤ length (now ids)) ⌝ }
+    ensures { λ t. ⌜ judgedSays t ≡ judgedIn (take count (old id)) (take count (old q)) (length (old id)) exploded (take entries (old ids)) quota ⌝ }
+{
+    judge(
+        &id[..count],
+        &q[..count],
+        id.len(),
+        exploded,
+        &ids[..entries],
+        quota,
+    )
+}
 
 // 10 to 13, the request, and 20 to 24, without a write to the table. The work columns take the request's entries: ids, quotas, and the
 // quotas before each in L and in R.
@@ -39,20 +64,14 @@ fn judge_request(
 {
     match check_columns(id, l, r, q, count) {
         Checked::Refused(why) => Verdict::Refused(why),
-        Checked::Sound => match number_request(
-            request,
-            &mut *ids,
-            &mut *quotas,
-            &mut *before_l,
-            &mut *before_r,
-        ) {
+        Checked::Sound => match number_request(request, ids, quotas, before_l, before_r) {
             RequestRead::Refused(why) => Verdict::Refused(why),
             RequestRead::Request {
                 exploded,
                 upright: _,
                 entries,
                 quota,
-            } => match judge(id, q, count, exploded, &*ids, entries, quota) {
+            } => match judge_rows(id, q, count, exploded, &*ids, entries, quota) {
                 Judged::Refused(why) => Verdict::Refused(why),
                 Judged::Row(own) => Verdict::Accepted {
                     exploded,
@@ -103,28 +122,22 @@ pub fn refine(
             old_r,
             entries,
         } => {
-            place(&mut *id, own, count, exploded, 0, &ids, &ids, entries);
-            place(
-                &mut *l,
-                own,
+            write_rows(
+                id,
+                l,
+                r,
+                q,
                 count,
                 exploded,
+                own,
                 old_l,
-                &ids,
-                &before_l,
-                entries,
-            );
-            place(
-                &mut *r,
-                own,
-                count,
-                exploded,
                 old_r,
-                &ids,
-                &before_r,
                 entries,
+                &ids,
+                &quotas,
+                &before_l,
+                &before_r,
             );
-            place(&mut *q, own, count, exploded, 0, &ids, &quotas, entries);
             Counted::Count(count + entries - 1)
         }
     }

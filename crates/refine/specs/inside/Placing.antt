@@ -7,7 +7,7 @@ use lib.ListN.{length, getD, set, take}
 use Rattle.rules.specs.Capacities.{entryCapacity}
 use Rattle.rules.specs.Limits.{greatest}
 use Rattle.table.specs.Columns.{Columns, columns}
-use Rattle.refine.specs.inside.Ids.{timesIn}
+use Rattle.judging.specs.Ids.{timesIn}
 
 -- each id's value, with `base` added, is written in turn: at row `own` for the id u, else at the next row
 unfoldable pub placed : (u own next base : ℕ) (ids values column : List ℕ) → List ℕ

@@ -11,8 +11,8 @@ use Rattle.reading.specs.Says.{requestSays}
 use Rattle.table.specs.Check.{checked}
 use Rattle.table.specs.Columns.{Columns, columns, rows}
 use Rattle.table.proofs.Passing.{sound, unsound}
+use Rattle.judging.specs.Judging.{judgedSays}
 use Rattle.refine.specs.Refine.{refined}
-use Rattle.refine.specs.inside.Judging.{judgedSays}
 use Rattle.refine.specs.inside.Verdicts.{Settles}
 use Rattle.refine.specs.declared.Verdict.the-variants as verdict
 use Rattle.refine.proofs.Accepting.{passed}
@@ -34,10 +34,10 @@ table n = n .before .before .before .before .before
 abbrev numbered : tie.After-known-told3 → tie.After-number-request
 numbered k = k .before .before .before
 
-abbrev read : tie.After-judge-arg2 → tie.After-known-told3
+abbrev read : tie.After-judge-rows-arg2 → tie.After-known-told3
 read c = c .before .before
 
-abbrev asked : tie.After-known-told5 → tie.After-judge-arg2
+abbrev asked : tie.After-known-told5 → tie.After-judge-rows-arg2
 asked c = c .before .before .before .before
 
 good-at : (e : tie.After-enum-told) → let s = start e in checked (cols s) (s .args .count) ≡ answer (rows (cols s) (s .args .count))
@@ -74,7 +74,7 @@ settled c =
     let ids = now (a .ids) in
     let quotas = now (a .quotas) in
     let known = e .before .before .before in
-    settles (cols s) (a .count) (good-at e) g (w .0) (front-at k) (sym (ap judgedSays (c .before .own .given .1)) ∙ c .before .before .before .judge .ensures)
+    settles (cols s) (a .count) (good-at e) g (w .0) (front-at k) (sym (ap judgedSays (c .before .own .given .1)) ∙ c .before .before .before .judge-rows .ensures)
     (now (a .before-l)) (w .1 .1 .0) (now (a .before-r)) (w .1 .1 .1 .0) (n .ensures .1 .1 .0) (n .ensures .1 .1 .1) (s .pre .1 .0) (s .pre .1 .1)
     (λ i. omega (arith, known .shared-slice-known5 .given i))
     (w .1 .0) (quotas-front g ids (w .0) quotas (w .1 .0) h (s .pre .0 .1)) (ids-length g ids (w .0) quotas (w .1 .0) h (s .pre .0 .0))
@@ -106,7 +106,7 @@ judge-request-spec =
     let p = passed (cols s) (a .count) (good-at e) in
     let g = given-at k in
     let il = ids-length g (now (a .ids)) (n .last .1 .0) (now (a .quotas)) (n .last .1 .1 .0) (n .ensures .1 .0) (s .pre .0 .0) in
-    ((p .most, p .lengths .most, p .lengths .in-q), (omega (arith, g .entries-most, il), il)))
+    (p .most, omega (arith, p .most, p .lengths .in-q), omega (arith, g .entries-most, il)))
     (λ c. search needs) (λ c. search needs)
     (λ c. omega (arith, row-in c, start (table (numbered (read (asked c)))) .good))
     (λ c. omega (arith, row-in (c .before)))
@@ -123,5 +123,5 @@ judge-request-spec =
     let e = table (numbered k) in
     let s = start e in
     judged-refused (cols s) (s .args .count) (good-at e) (given-at k) (numbered k .number-request .last .1 .0) (front-at k)
-    (sym (ap judgedSays (c .before .why3 .given .1)) ∙ c .before .before .before .judge .ensures))
+    (sym (ap judgedSays (c .before .why3 .given .1)) ∙ c .before .before .before .judge-rows .ensures))
     (λ c. settled (c .before .before)))
