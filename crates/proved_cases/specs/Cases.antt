@@ -2,12 +2,12 @@
 use Prim.Native.Nat.{ℕ}
 use Prim.Native.String.{String}
 use mathlib.Core.List.{List, [], _∷_, _++_, map}
-use lib.ListN.{length, replicate}
+use lib.ListN.{length}
 use Rattle.rules.specs.Answers.{Answer, answer, refused}
 use Rattle.rules.specs.Limits.{mostRows}
 use Rattle.number.specs.Number.{Number, found, numberAt, bytesOf}
 use Rattle.request.specs.Entries.{quotaOf}
-use Rattle.table.specs.Columns.{Row, Columns, columns, rows, counted, afterwards}
+use Rattle.table.specs.Columns.{Row, rows, counted, afterwards}
 use Rattle.fresh.specs.Fresh.{freshRows}
 use Rattle.grant.specs.Grant.{Grant, grantsBytes}
 use Rattle.decide.specs.Dating.{Decision}
@@ -16,7 +16,7 @@ use Rattle.decision_line.specs.DecisionText.{decisionText}
 use Rattle.ledger.specs.Ledger.{Ledger, freshLedger, afreshL, afreshR}
 use Rattle.ledger.specs.Calls.{Call, Reply, engineStart, engineReplies, engineEnd, ledgerReplies, ledgerEnd}
 use Rattle.table.specs.Columns.{Table, rowsIn}
-use Rattle.replay.specs.Replay.{Replay, replayOf, growText}
+use Rattle.replay.specs.Replay.{Replay, replayOf, blank, growText}
 use Rattle.proved_cases.specs.Lines.{lines}
 
 pub data Case : Type 0 where
@@ -45,10 +45,6 @@ pub data Outcome : Type 0 where
   printed : List ℕ → List Row → Outcome
   -- the decision on the grants' stored bytes
   decision : Answer Decision → Outcome
-
--- columns of the most rows that nobody wrote yet
-abbrev pub blank : Columns
-blank = columns (replicate mostRows 0) (replicate mostRows 0) (replicate mostRows 0) (replicate mostRows 0)
 
 -- the stored bytes of some numbers
 abbrev pub stream : List ℕ → List ℕ

@@ -12,6 +12,7 @@ use decide::Decided;
 use number::Drawn;
 use number::Written;
 use order::Ordered;
+use replay::Grown;
 use table::Checked;
 use table::Counted;
 
@@ -182,11 +183,25 @@ pub fn store(id: &[u32], l: &[u32], r: &[u32], q: &[u32], count: usize, space: u
     show::whole(&buffer, 0);
 }
 
+// How many bytes were written of a log's text, or 0.
+fn grown(g: Grown) -> usize {
+    match g {
+        Grown::Text(n) => {
+            answer(show::BYTES, n as u64);
+            n
+        }
+        Grown::NoRoom => {
+            answer(show::NO_ROOM, 0);
+            0
+        }
+    }
+}
+
 // Carries out a log, with so many bytes for its text.
 fn grow(id: &mut [u32], l: &mut [u32], r: &mut [u32], q: &mut [u32], log: &[u8], space: u64) {
     let mut buffer = show::unwritten();
     let n = room(space);
-    let end = written(replay::grow(log, id, l, r, q, &mut buffer[0..n]));
+    let end = grown(replay::grow(log, id, l, r, q, &mut buffer[0..n]));
     show::whole(&buffer, end);
 }
 

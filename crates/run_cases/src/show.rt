@@ -44,6 +44,8 @@ pub const PARTS: usize = 16;
 
 pub const NONE: usize = 17;
 
+pub const NO_ROOM: usize = 18;
+
 pub fn text(t: &[u8]) {
     io::write_all(STDOUT_FILENO, t);
 }
@@ -79,7 +81,7 @@ fn word(words: &[u8], before: usize) {
 
 pub fn answer(kind: usize, value: u64) {
     word(
-        b": no,: count,: bytes,: number,: on,: ended,: ahead,: on open,: never,: sound,: same,: first,: second,: incomparable,: yes,: not,: parts,: none",
+        b": no,: count,: bytes,: number,: on,: ended,: ahead,: on open,: never,: sound,: same,: first,: second,: incomparable,: yes,: not,: parts,: none,: no room",
         kind,
     );
     if kind < VALUES {
