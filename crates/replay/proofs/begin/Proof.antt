@@ -1,7 +1,5 @@
 -- `replay::begin` meets its contract: the pair, and then fresh.
 use mathlib.Core.Path.{ap, sym, _∙_}
-use denote.Ref.{now}
-use Rattle.table.specs.Columns.{columns}
 use Rattle.table.specs.Says.{countedSays}
 use Rattle.log.specs.Says.{pairSays}
 use Rattle.replay.proofs.Growing.{begins-refused, fresh-refused, fresh-made}
