@@ -1,13 +1,11 @@
-// The test program for tables: its input is a script, of which it prints each line with what the line's call answers.
+// The test program for fresh tables, the check and the order: its input is a script, of which it prints each line with what the line's call answers.
 use libc::STDIN_FILENO;
 use order::Ordered;
 use script::given;
 use script::item_after;
 use script::start;
-use script_values::bytes;
 use script_values::column;
 use script_values::narrow;
-use script_values::room;
 use show::answer;
 use show::rows;
 use table::Checked;
@@ -35,25 +33,6 @@ fn fresh(line: &[u8]) {
     show::columns(&id, &l, &r, &q);
 }
 
-fn load(line: &[u8], bytes: &[u8]) {
-    let mut id = column(line, b'i');
-    let mut l = column(line, b'l');
-    let mut r = column(line, b'r');
-    let mut q = column(line, b'q');
-    let a = rows(id[ROWS]);
-    let b = rows(l[ROWS]);
-    let c = rows(r[ROWS]);
-    let d = rows(q[ROWS]);
-    show::counted(load::read(
-        &mut id[0..a],
-        &mut l[0..b],
-        &mut r[0..c],
-        &mut q[0..d],
-        bytes,
-    ));
-    show::columns(&id, &l, &r, &q);
-}
-
 fn check(id: &[u32], l: &[u32], r: &[u32], q: &[u32], count: usize) {
     match table::check_columns(id, l, r, q, count) {
         Checked::Sound => answer(show::SOUND, 0),
@@ -71,22 +50,20 @@ fn order(id: &[u32], l: &[u32], r: &[u32], q: &[u32], count: usize, a: u32, b: u
     }
 }
 
-// Stores in so many bytes.
-fn store(id: &[u32], l: &[u32], r: &[u32], q: &[u32], count: usize, space: u64) {
-    let mut buffer = show::unwritten();
-    let n = room(space);
-    show::written(store::store(id, l, r, q, count, &mut buffer[0..n]));
-    show::whole(&buffer, 0);
-}
-
 // A call that reads columns.
 fn on_columns(command: u8, line: &[u8], id: &[u32], l: &[u32], r: &[u32], q: &[u32]) {
     let count = given(line, 0) as usize;
-    let x = given(line, 1);
     match command {
         b'c' => check(id, l, r, q, count),
-        b'o' => order(id, l, r, q, count, narrow(x), narrow(given(line, 2))),
-        _ => store(id, l, r, q, count, x),
+        _ => order(
+            id,
+            l,
+            r,
+            q,
+            count,
+            narrow(given(line, 1)),
+            narrow(given(line, 2)),
+        ),
     }
 }
 
@@ -102,25 +79,19 @@ fn read(command: u8, line: &[u8]) {
     on_columns(command, line, &id[0..a], &l[0..b], &r[0..c], &q[0..d]);
 }
 
-// The call that a line's first word names, with the bytes that the line gives.
-fn call(line: &[u8], bytes: &[u8], n: usize) {
+// The call that a line's first word names.
+fn call(line: &[u8]) {
     let command = item_after(line, start()).word;
-    if bytes.len() < n {
-        return;
-    }
     match command {
         b'f' => fresh(line),
-        b'l' => load(line, &bytes[0..n]),
-        b'c' | b'o' | b's' => read(command, line),
+        b'c' | b'o' => read(command, line),
         _ => {}
     }
 }
 
 fn one(line: &[u8]) {
     show::text(line);
-    let mut buffer = [0u8; 65536];
-    let n = bytes(line, &mut buffer);
-    call(line, &buffer, n);
+    call(line);
     show::byte(b'\n');
 }
 
