@@ -1,5 +1,5 @@
 -- The whole of a log: the room, the fresh pair, and then the requests.
-use mathlib.Core.Path.{_≡_, ap, ap₂, sym}
+use mathlib.Core.Path.{_≡_, ap, sym, _∙_}
 use mathlib.Core.Bool.{_||_}
 use mathlib.Core.List.{List}
 use Prim.Native.Nat.{ℕ, _+_, _<_, _≤_}
@@ -7,9 +7,9 @@ use native.Mathlib.Omega.{arith}
 use lib.Dec.{eqb}
 use lib.ListN.{length}
 use borrow.Author.Tests.{le-leb, lt-leb}
-use Rattle.rules.specs.Answers.{answer, refused}
+use Rattle.rules.specs.Answers.{Answer, answer, refused}
 use Rattle.rules.specs.Buffers.{after}
-use Rattle.rules.proofs.Answers.{same-answer, by-answer, peel, then-answer, then-refused}
+use Rattle.rules.proofs.Answers.{same-answer, peel, then-answer, then-refused}
 use Rattle.table.specs.Columns.{Row, Columns, put, counted, afterwards}
 use Rattle.table.specs.Check.{lengthsBad}
 use Rattle.fresh.specs.Fresh.{freshRows}
@@ -20,7 +20,7 @@ use Rattle.lines.specs.Lines.{lineText}
 use Rattle.replay.specs.Replay.{Replay, replayOf, textOf, columnsAfter, growText, growColumns, growRoom, growAnswer, growBuffer, growTable}
 use Rattle.replay.specs.declared.Grown.{Grown}
 use Rattle.replay.specs.declared.Grown.the-variants.{Text, NoRoom}
-use Rattle.replay.specs.inside.Carrying.{firstRows, firstRequest, carried}
+use Rattle.replay.specs.inside.Carrying.{carried}
 use Rattle.replay.proofs.Running.{Held, make-held}
 
 -- ## The fresh pair
@@ -36,40 +36,29 @@ fresh-one c id quota {t} e =
     let fits : length t ≤ length (c .id) = omega arith in
     (one, make-held (put t c) 1 (put-lengths t c (l .0) fits) (good-count _ _ (omega arith) (omega (arith, put-length t c fits))))
 
--- what `begin` finds
 module _ (c : Columns) (log : List ℕ) where
-  pub begins-refused : {n : ℕ} → pairOf log ≡ refused n → (refused n ≡ firstRequest c log) × (c ≡ afterwards (firstRows c log) c)
-  begins-refused e = (rw e, rw e)
-
-  module _ {p : Pair} (e : pairOf log ≡ answer p) {d : Columns} (left : d ≡ afterwards (freshRows c (p .id) (p .quota)) c) where
-    pub fresh-refused : {n : ℕ} → counted (freshRows c (p .id) (p .quota)) ≡ refused n → (refused n ≡ firstRequest c log) × (d ≡ afterwards (firstRows c log) c)
-    fresh-refused k = let f = then-refused (freshRows c (p .id) (p .quota)) _ k in (rw (e, f), rw e left)
-
-    pub fresh-made : {n : ℕ} → counted (freshRows c (p .id) (p .quota)) ≡ answer n → (answer (p .next) ≡ firstRequest c log) × (d ≡ afterwards (firstRows c log) c)
-    fresh-made k = let f = then-answer (freshRows c (p .id) (p .quota)) _ k in (rw (e, f .1), rw e left)
-
--- what a log leads to, by how it begins
-module _ (c : Columns) (log : List ℕ) {d : Columns} (left : d ≡ afterwards (firstRows c log) c) where
-  pub begun-bad : {n : ℕ} → firstRequest c log ≡ refused n → (replayOf c log ≡ refused n) × (d ≡ c)
+  pub pair-bad : {a : Answer Pair} {n : ℕ} → a ≡ pairOf log → a ≡ refused n → replayOf c log ≡ refused n
   unfolding replayOf
-  begun-bad {n} e =
-      by-answer (pairOf log)
-      (λ p f. let g = then-refused (freshRows c (p .id) (p .quota)) (λ _. p .next) (rw f at e) in (rw (f, g), rw (f, g) at left))
-      (λ m f. let k : m ≡ n = cc in (rw (f, k), rw f at left))
+  pair-bad said k = let e = sym said ∙ k in rw e
 
-  -- one row, and the requests after it
-  pub begun-good : {next : ℕ} → firstRequest c log ≡ answer next
-      → (replayOf c log ≡ answer (carried d log next)) × (Held (record { columns = d; count = 1 }) × (next ≤ length log))
-  unfolding replayOf
-  begun-good e =
-      let p = then-answer (pairOf log) _ e in
-      let f = then-answer (freshRows c (p .0 .id) (p .0 .quota)) _ (p .2) in
-      let o = fresh-one c (p .0 .id) (p .0 .quota) (f .1) in
-      let l : d ≡ put (f .0) c = rw (p .1, f .1) at left in
-      let n = same-answer (f .2) in (
-        rw (p .1, f .1, o .0) (ap₂ (λ (x : Columns) (i : ℕ). answer (carried x log i)) (sym l) n),
-        (rw l (o .1), omega (arith, n, pair-in log (p .0) (p .1))),
-      )
+  -- fresh is refused, or leaves one row
+  module _ {q : Answer Pair} {p : Pair} (read : q ≡ pairOf log) (pair : q ≡ answer p) {d : Columns} (left : d ≡ afterwards (freshRows c (p .id) (p .quota)) c)
+      {a : Answer ℕ} (said : a ≡ counted (freshRows c (p .id) (p .quota))) where
+    pub fresh-bad : {n : ℕ} → a ≡ refused n → (replayOf c log ≡ refused n) × (d ≡ c)
+    unfolding replayOf
+    fresh-bad k =
+        let e = sym read ∙ pair in
+        let f = then-refused (freshRows c (p .id) (p .quota)) _ (sym said ∙ k) in
+        (rw (e, f), left ∙ ap (λ x. afterwards x c) f)
+
+    pub fresh-good : {n : ℕ} → a ≡ answer n → (replayOf c log ≡ answer (carried d log (p .next))) × (Held (record { columns = d; count = 1 }) × (p .next ≤ length log))
+    unfolding replayOf
+    fresh-good k =
+        let e = sym read ∙ pair in
+        let f = then-answer (freshRows c (p .id) (p .quota)) _ (sym said ∙ k) in
+        let o = fresh-one c (p .id) (p .quota) (f .1) in
+        let l : d ≡ put (f .0) c = left ∙ ap (λ x. afterwards x c) (f .1) in
+        (rw (e, f .1, o .0, l), (rw l (o .1), pair-in log p e))
 
 -- ## The answer, the buffer and the columns
 

@@ -11,20 +11,21 @@ use Rattle.rules.specs.Buffers.{after}
 use Rattle.rules.proofs.Answers.{by-answer}
 use Rattle.rules.proofs.Buffers.{after-same, after-start}
 use Rattle.rules.proofs.Cases.{by-lt}
-use Rattle.table.specs.Columns.{Columns, afterwards}
+use Rattle.table.specs.Columns.{Columns, counted, afterwards}
+use Rattle.fresh.specs.Fresh.{freshRows}
 use Rattle.table.proofs.Rows.{rows-length}
-use Rattle.log.specs.Log.{partAt, bytesIn, noMore, requestsFrom, requestsAt}
+use Rattle.log.specs.Log.{pairOf, partAt, bytesIn, noMore, requestsFrom, requestsAt}
 use Rattle.log.proofs.Laws.{part-in, stop, no-more, one-more}
 use Rattle.lines.specs.Lines.{lineText, columnsBad}
 use Rattle.lines.proofs.Laws.{line-most, table-most}
 use Rattle.table.specs.Columns.{Table, rowsIn}
 use Rattle.refine.specs.Refine.{answerTo, tableAfter}
 use Rattle.replay.specs.Replay.{Replay, replayFrom, textOf, growText, growRoom, growAnswer, growBuffer, lineRoom, tableRoom}
-use Rattle.replay.specs.inside.Carrying.{firstRows, firstRequest, carried}
+use Rattle.replay.specs.inside.Carrying.{carried}
 use Rattle.replay.specs.declared.Grown.{Grown}
 use Rattle.replay.specs.declared.Grown.the-variants.{Text, NoRoom}
 use Rattle.replay.proofs.Running.{Held, held-within, held-after, replay-none, replay-bad, replay-more}
-use Rattle.replay.proofs.Growing.{begun-bad, begun-good}
+use Rattle.replay.proofs.Growing.{pair-bad, fresh-bad, fresh-good}
 
 -- few bytes of text for so many bytes of the log
 abbrev Few : Replay → ℕ → Type 0
@@ -65,9 +66,11 @@ few d log next h = omega (arith, requests-few (length log) log next (record { co
 pub grow-room : (c : Columns) (log : List ℕ) → length (growText c log) ≤ growRoom (length log)
 unfolding growRoom textOf
 grow-room c log =
-    by-answer (firstRequest c log)
-    (λ next e. let g = begun-good c log refl e in rw (g .0) (few (afterwards (firstRows c log) c) log next (g .1 .0)))
-    (λ n e. rw (begun-bad c log refl e .0) (omega (arith, line-most (refused n))))
+    by-answer (pairOf log)
+    (λ p e. by-answer (counted (freshRows c (p .id) (p .quota)))
+    (λ n f. let g = fresh-good c log refl e refl refl f in rw (g .0) (few (afterwards (freshRows c (p .id) (p .quota)) c) log (p .next) (g .1 .0)))
+    (λ n f. rw (fresh-bad c log refl e refl refl f .0) (omega (arith, line-most (refused n)))))
+    (λ n e. rw (pair-bad c log refl e) (omega (arith, line-most (refused n))))
 
 -- a buffer with the room holds the text at its start; the answer is never that there is none
 module _ (c : Columns) (log buffer : List ℕ) {a : Grown} (room : growRoom (length log) ≤ length buffer) (said : a ≡ growAnswer c log buffer) where

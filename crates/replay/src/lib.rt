@@ -8,13 +8,12 @@ ghost use Rattle.rules.specs.Answers.{orElse};
 ghost use Rattle.rules.specs.Buffers.{after};
 ghost use Rattle.rules.specs.Lent.{old, new};
 ghost use Rattle.number.specs.Says.{writtenSays};
-ghost use Rattle.table.specs.Columns.{afterwards};
 ghost use Rattle.table.specs.Says.{countedSays};
 ghost use Rattle.table.specs.Lent.{oldColumns, newColumns, lentColumns};
 ghost use Rattle.lines.specs.Lines.{lineText, columnsBad};
 ghost use Rattle.lines.specs.Says.{lineSays};
 ghost use Rattle.replay.specs.Replay.{growAnswer, growBuffer, growTable, growRoom, lineRoom, tableRoom};
-ghost use Rattle.replay.specs.inside.Carrying.{Countable, begunSays, firstRequest, firstRows, carried};
+ghost use Rattle.replay.specs.inside.Carrying.{Countable, carried};
 use fresh::fresh;
 use lines::Line;
 use lines::write_line;
@@ -34,12 +33,6 @@ pub enum Grown {
     Text(usize),
     // The buffer is shorter than the room that is asked for, and nothing was carried out.
     NoRoom,
-}
-
-// How a log begins: where its requests do, or why there is no fresh table.
-enum Begun {
-    At(usize),
-    Refused(Refusal),
 }
 
 // What the table needs of the text's room.
@@ -136,20 +129,6 @@ fn carry_out(
     p + bytes_of(write_table(&mut *text, p, &*id, &*l, &*r, &*q, count))
 }
 
-// Makes a log's fresh table.
-fn begin(log: &[u8], id: &mut [u32], l: &mut [u32], r: &mut [u32], q: &mut [u32]) -> Begun
-    ensures { λ t. ⌜ begunSays t ≡ firstRequest (oldColumns id l r q) (old log) ⌝ }
-    ensures { λ t. ⌜ newColumns id l r q ≡ afterwards (firstRows (oldColumns id l r q) (old log)) (oldColumns id l r q) ⌝ }
-{
-    match pair_of(log) {
-        PairRead::Refused(why) => Begun::Refused(why),
-        PairRead::Pair(group, quota, next) => match fresh(id, l, r, q, group, quota) {
-            Counted::Refused(why) => Begun::Refused(why),
-            Counted::Count(_) => Begun::At(next),
-        },
-    }
-}
-
 // Carries out a log on the columns and writes what it says as text; where the buffer is shorter than 14 bytes for each byte of the log
 // and 16384 for the table there is no room, and nothing is written.
 pub fn grow(
@@ -167,8 +146,13 @@ pub fn grow(
     if no_room(log.len(), text.len()) {
         return Grown::NoRoom;
     }
-    match begin(log, &mut *id, &mut *l, &mut *r, &mut *q) {
-        Begun::Refused(why) => Grown::Text(write_answer(text, 0, Counted::Refused(why))),
-        Begun::At(next) => Grown::Text(carry_out(log, next, id, l, r, q, text)),
+    match pair_of(log) {
+        PairRead::Refused(why) => Grown::Text(write_answer(text, 0, Counted::Refused(why))),
+        PairRead::Pair(group, quota, next) => {
+            match fresh(&mut *id, &mut *l, &mut *r, &mut *q, group, quota) {
+                Counted::Refused(why) => Grown::Text(write_answer(text, 0, Counted::Refused(why))),
+                Counted::Count(_) => Grown::Text(carry_out(log, next, id, l, r, q, text)),
+            }
+        }
     }
 }

@@ -1,14 +1,15 @@
--- `replay::grow` meets its contract: the room, the fresh table, and then the requests.
-use mathlib.Core.Path.{ap, sym, _∙_}
+-- `replay::grow` meets its contract: the room, the fresh pair, and then the requests.
+use mathlib.Core.Path.{refl, ap, sym, _∙_}
 use Prim.Native.Nat.{_≤_}
 use native.Mathlib.Omega.{arith}
 use lib.ListN.{length}
 use borrow.Author.Tests.{ltb-true, ltb-false}
 use denote.Ref.{now}
 use Rattle.table.specs.Columns.{Columns, columns}
+use Rattle.table.specs.Says.{countedSays}
+use Rattle.log.specs.Says.{pairSays}
 use Rattle.replay.specs.Replay.{growRoom}
-use Rattle.replay.specs.inside.Carrying.{begunSays}
-use Rattle.replay.proofs.Growing.{begun-bad, begun-good, no-room, grows-bad, grows-good}
+use Rattle.replay.proofs.Growing.{pair-bad, fresh-bad, fresh-good, no-room, grows-bad, grows-good}
 use borrow.Author.Needs.{needs}
 use Rattle.replay.proofs.grow.Statement.{statement}
 use Rattle.replay.proofs.grow.Tie as tie
@@ -21,11 +22,11 @@ table s = let a = s .args in columns (now (a .id)) (now (a .l)) (now (a .r)) (no
 abbrev start : tie.Else1 → tie.Start
 start e = search
 
-abbrev roomy : tie.After-begin → tie.Else1
-roomy b = search
+abbrev paired : tie.After-fresh → tie.After-group
+paired f = search
 
-abbrev told : tie.After-carry-out → tie.After-next
-told k = search
+abbrev roomy : tie.After-group → tie.Else1
+roomy m = search
 
 -- there is room for any log of this length
 room : (e : tie.Else1) → let s = start e in growRoom (length (now (s .args .log))) ≤ length (now (s .args .text))
@@ -41,35 +42,60 @@ write-answer-requires : tie.Need-write-answer-requires
 unfolding growRoom
 write-answer-requires c κs = let e : tie.Else1 = search in let r = room e in (omega arith, tt)
 
+write-answer-requires-2 : tie.Need-write-answer-requires-2
+unfolding growRoom
+write-answer-requires-2 c κs = let f : tie.After-fresh = search in let r = room (roomy (paired f)) in (omega arith, tt)
+
 carry-out-requires : tie.Need-carry-out-requires
 unfolding growRoom
 carry-out-requires c κs =
-    let s : tie.Start = search in
-    let e : tie.Else1 = search in
-    let b : tie.After-begin = search in
-    let m : tie.After-next = search in
-    let good = begun-good (table s) (now (s .args .log)) (b .begin .ensures .1) (sym (b .begin .ensures .0) ∙ ap begunSays (m .next .given .1)) in
+    let t : tie.After-enum-told = search in
+    let f : tie.After-fresh = search in
+    let m = paired f in
+    let e = roomy m in
+    let s = start e in
+    let good = fresh-good (table s) (now (s .args .log)) (m .before .before .pair-of .ensures) (ap pairSays (m .group .given .1)) (f .fresh .ensures .1)
+    (f .fresh .ensures .0) (ap countedSays (t .enum-told .given .1)) in
     let r = room e in
     (good .1 .0, (good .1 .1, omega arith))
 
 returns-2 : tie.Need-returns-2
 returns-2 c =
-    let s : tie.Start = search in
     let e : tie.Else1 = search in
-    let b : tie.After-begin = search in
     let m : tie.After-why = search in
     let w : tie.After-write-answer = search in
-    let bad = begun-bad (table s) (now (s .args .log)) (b .begin .ensures .1) (sym (b .begin .ensures .0) ∙ ap begunSays (m .why .given .1)) in
-    grows-bad (table s) (now (s .args .log)) (now (s .args .text)) (room e) (bad .0) (w .write-answer .ensures .0) (w .write-answer .ensures .1) (bad .1)
+    let s = start e in
+    grows-bad (table s) (now (s .args .log)) (now (s .args .text)) (room e) (pair-bad (table s) (now (s .args .log)) (m .before .before .pair-of .ensures) (ap pairSays (m .why .given .1)))
+    (w .write-answer .ensures .0) (w .write-answer .ensures .1) refl
 
 returns-3 : tie.Need-returns-3
 returns-3 c =
-    let k : tie.After-carry-out = search in
-    let m = told k in
-    let b : tie.After-begin = search in
-    let e = roomy b in
+    let w : tie.After-write-answer2 = search in
+    let y : tie.After-why2 = search in
+    let f : tie.After-fresh = search in
+    let m = paired f in
+    let e = roomy m in
     let s = start e in
-    let good = begun-good (table s) (now (s .args .log)) (b .begin .ensures .1) (sym (b .begin .ensures .0) ∙ ap begunSays (m .next .given .1)) in
+    let bad = fresh-bad (table s) (now (s .args .log)) (m .before .before .pair-of .ensures) (ap pairSays (m .group .given .1)) (f .fresh .ensures .1)
+    (f .fresh .ensures .0) (ap countedSays (y .why2 .given .1)) in
+    grows-bad (table s) (now (s .args .log)) (now (s .args .text)) (room e) (bad .0) (w .write-answer2 .ensures .0) (w .write-answer2 .ensures .1) (bad .1)
+
+abbrev told : tie.After-carry-out → tie.After-enum-told
+told k = search
+
+abbrev made : tie.After-enum-told → tie.After-fresh
+made t = search
+
+returns-4 : tie.Need-returns-4
+returns-4 c =
+    let k : tie.After-carry-out = search in
+    let t = told k in
+    let f = made t in
+    let m = paired f in
+    let e = roomy m in
+    let s = start e in
+    let good = fresh-good (table s) (now (s .args .log)) (m .before .before .pair-of .ensures) (ap pairSays (m .group .given .1)) (f .fresh .ensures .1)
+    (f .fresh .ensures .0) (ap countedSays (t .enum-told .given .1)) in
     let w = k .carry-out .ensures in
     grows-good (table s) (now (s .args .log)) (now (s .args .text)) (room e) (good .0) (w .0) (w .1 .0) (w .1 .1)
 
@@ -81,9 +107,13 @@ grow-spec =
     returns
     (λ c κs. search needs) (λ c. search needs)
     write-answer-requires
+    (λ c. search needs) (λ c κs. search needs) (λ c. search needs)
+    write-answer-requires-2
     (λ c. search needs)
     carry-out-requires
-    (λ c. search needs) (λ c. search needs) (λ c. search needs) (λ c. search needs) (λ c. search needs)
+    (λ c. search needs)
     returns-2
     (λ c. search needs) (λ c. search needs) (λ c. search needs) (λ c. search needs) (λ c. search needs)
-    returns-3)
+    returns-3
+    (λ c. search needs) (λ c. search needs) (λ c. search needs) (λ c. search needs) (λ c. search needs)
+    returns-4)
