@@ -3,12 +3,12 @@ use Prim.Native.Nat.{ℕ}
 use Prim.Native.String.{String}
 use mathlib.Core.Bool.{Bool}
 use mathlib.Core.List.{List, [], _∷_, _++_, map}
-use lib.ListN.{length, replicate, take, drop}
+use lib.ListN.{length, take, drop}
 use Rattle.rules.specs.Answers.{Answer, answer, refused}
 use Rattle.rules.specs.Limits.{mostRows}
 use Rattle.number.specs.Number.{Number, found, numberAt, bytesOf}
 use Rattle.request.specs.Entries.{quotaOf}
-use Rattle.table.specs.Columns.{Row, Columns, columns, rows, lOf, rOf, counted, afterwards}
+use Rattle.table.specs.Columns.{Row, rows, lOf, rOf, counted, afterwards}
 use Rattle.fresh.specs.Fresh.{freshRows}
 use Rattle.grant.specs.Grant.{Grant, grant, grantsBytes}
 use Rattle.decide.specs.Dating.{Decision}
@@ -18,7 +18,7 @@ use Rattle.ledger.specs.Ledger.{Ledger, freshLedger, afreshL, afreshR}
 use Rattle.ledger.specs.Calls.{Call, Reply, engineStart, engineReplies, engineEnd, ledgerReplies, ledgerEnd, explodedIn}
 use Rattle.ledger.specs.Decisions.{GroupGrant, ledgerDecided}
 use Rattle.table.specs.Columns.{Table, rowsIn}
-use Rattle.replay.specs.Replay.{Replay, replayOf, growText}
+use Rattle.replay.specs.Replay.{Replay, replayOf, blank, growText}
 use Rattle.proved_cases.specs.Lines.{lines}
 
 -- a grant to a group whose numbers were noted after some of the calls
@@ -65,10 +65,6 @@ pub data Outcome : Type 0 where
   decision : Answer Decision → Outcome
   -- the notes of a pass and of grants, the decision from their numbers, and the ledger's
   decisions : List Note → Answer Decision → Answer Decision → Outcome
-
--- columns of the most rows that nobody wrote yet
-abbrev pub blank : Columns
-blank = columns (replicate mostRows 0) (replicate mostRows 0) (replicate mostRows 0) (replicate mostRows 0)
 
 -- the stored bytes of some numbers
 abbrev pub stream : List ℕ → List ℕ

@@ -1,2 +1,2 @@
 // The worked examples that document 01 marks P, as theorems on the definitions.
-// Definitions and proofs alone; crate run_cases is the test program.
+// Definitions and proofs alone; the crates run_* are the test programs.

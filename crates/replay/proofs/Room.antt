@@ -1,14 +1,15 @@
 -- `growRoom` is enough: the text of a log has at most 14 bytes for each byte of the log, and 16384 for the table.
-use mathlib.Core.Path.{_≡_, refl, ap, _∙_}
+use mathlib.Core.Path.{_≡_, refl, ap, sym, _∙_}
 use mathlib.Core.Bool.{false}
 use mathlib.Core.List.{List}
 use Prim.Native.Nat.{ℕ, zero, suc, _+_, _*_, _-_, _≤_}
 use native.Mathlib.Omega.{arith}
-use lib.Dec.{leb}
-use lib.ListN.{length, length-append}
-use borrow.Author.Tests.{leb-true}
+use lib.ListN.{length, take, length-append}
+use borrow.Author.Tests.{le-leb}
 use Rattle.rules.specs.Answers.{answer, refused}
-use Rattle.rules.proofs.Answers.{same-answer, by-answer, wanted}
+use Rattle.rules.specs.Buffers.{after}
+use Rattle.rules.proofs.Answers.{by-answer}
+use Rattle.rules.proofs.Buffers.{after-same, after-start}
 use Rattle.rules.proofs.Cases.{by-lt}
 use Rattle.table.specs.Columns.{Columns, counted, afterwards}
 use Rattle.fresh.specs.Fresh.{freshRows}
@@ -19,8 +20,10 @@ use Rattle.lines.specs.Lines.{lineText, columnsBad}
 use Rattle.lines.proofs.Laws.{line-most, table-most}
 use Rattle.table.specs.Columns.{Table, rowsIn}
 use Rattle.refine.specs.Refine.{answerTo, tableAfter}
-use Rattle.replay.specs.Replay.{Replay, replayFrom, textOf, growText, growRoom, growAnswer, lineRoom, tableRoom}
+use Rattle.replay.specs.Replay.{Replay, replayFrom, textOf, growText, growRoom, growAnswer, growBuffer, lineRoom, tableRoom}
 use Rattle.replay.specs.inside.Carrying.{carried}
+use Rattle.replay.specs.declared.Grown.{Grown}
+use Rattle.replay.specs.declared.Grown.the-variants.{Text, NoRoom}
 use Rattle.replay.proofs.Running.{Held, held-within, held-after, replay-none, replay-bad, replay-more}
 use Rattle.replay.proofs.Growing.{pair-bad, fresh-bad, fresh-good}
 
@@ -65,13 +68,26 @@ unfolding growRoom textOf
 grow-room c log =
     by-answer (pairOf log)
     (λ p e. by-answer (counted (freshRows c (p .id) (p .quota)))
-    (λ n f. let g = fresh-good c log e refl f in rw (g .0) (few (afterwards (freshRows c (p .id) (p .quota)) c) log (p .next) (g .1)))
-    (λ n f. rw (fresh-bad c log e refl f .0) (omega (arith, line-most (refused n)))))
-    (λ n e. rw (pair-bad c log e) (omega (arith, line-most (refused n))))
+    (λ n f. let g = fresh-good c log refl e refl refl f in rw (g .0) (few (afterwards (freshRows c (p .id) (p .quota)) c) log (p .next) (g .1 .0)))
+    (λ n f. rw (fresh-bad c log refl e refl refl f .0) (omega (arith, line-most (refused n)))))
+    (λ n e. rw (pair-bad c log refl e) (omega (arith, line-most (refused n))))
 
--- a text that was written lies within its buffer
-pub grow-within : (c : Columns) (log buffer : List ℕ) {n : ℕ} → growAnswer c log buffer ≡ answer n → n ≤ length buffer
-unfolding growAnswer
-grow-within c log buffer e =
-    let w = wanted (leb (growRoom (length log)) (length buffer)) _ _ e in
-    omega (arith, leb-true (growRoom (length log)) (length buffer) (w .0), grow-room c log, same-answer (w .1))
+-- a buffer with the room holds the text at its start; the answer is never that there is none
+module _ (c : Columns) (log buffer : List ℕ) {a : Grown} (room : growRoom (length log) ≤ length buffer) (said : a ≡ growAnswer c log buffer) where
+  pub grown-text : {n : ℕ} {new : List ℕ} → a ≡ Text n → new ≡ growBuffer c log buffer → (n ≤ length new) × (take n new ≡ growText c log)
+  unfolding growAnswer growBuffer
+  grown-text {n} {new} e wrote =
+      let most = grow-room c log in
+      let k : Text (length (growText c log)) ≡ Text n = sym (rw (le-leb _ _ room) at said) ∙ e in
+      let j : length (growText c log) ≡ n = cc in
+      let f : new ≡ after buffer 0 (growText c log) = rw (le-leb _ _ room) at wrote in
+      let same = ap length f ∙ after-same buffer 0 (growText c log) (omega arith) in
+      (omega arith, ap (λ i. take i new) (sym j) ∙ ap (take (length (growText c log))) f ∙ after-start buffer (growText c log) (omega arith))
+
+  pub grown-room : {C : Type 0} → a ≡ NoRoom → C
+  unfolding growAnswer
+  grown-room e =
+      let k : Text (length (growText c log)) ≡ NoRoom = sym (rw (le-leb _ _ room) at said) ∙ e in
+      let z : _≡_ {A = ℕ} 0 1 = cc in
+      let f : ⊥ = omega arith in
+      absurd f

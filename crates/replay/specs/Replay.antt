@@ -3,15 +3,17 @@ use Prim.Native.Nat.{ℕ, _+_, _*_}
 use mathlib.Core.Bool.{cond}
 use mathlib.Core.List.{List, [], _++_, flatMap}
 use lib.Dec.{leb}
-use lib.ListN.{length}
+use lib.ListN.{length, replicate}
 use Rattle.rules.specs.Answers.{Answer, answer, refused, then}
 use Rattle.rules.specs.Buffers.{after}
-use Rattle.table.specs.Columns.{Columns, put}
+use Rattle.rules.specs.Limits.{mostRows}
+use Rattle.table.specs.Columns.{Columns, Table, columns, put, rowsIn}
 use Rattle.fresh.specs.Fresh.{freshRows}
 use Rattle.log.specs.Log.{pairOf, Requests, requestsAt}
 use Rattle.lines.specs.Lines.{lineText, tableText}
-use Rattle.table.specs.Columns.{Table, rowsIn}
 use Rattle.replay.specs.Run.{answersTo, tableEnd}
+use Rattle.replay.specs.declared.Grown.{Grown}
+use Rattle.replay.specs.declared.Grown.the-variants.{Text, NoRoom}
 
 pub record Replay : Type 0 where
   pub table : Table
@@ -46,6 +48,10 @@ unfoldable pub columnsAfter : Answer Replay → Columns → Columns
 columnsAfter (answer r) c = r .table .columns
 columnsAfter (refused n) c = c
 
+-- the columns that the program `grow` begins with: of the most rows, and nobody wrote them yet
+abbrev pub blank : Columns
+blank = columns (replicate mostRows 0) (replicate mostRows 0) (replicate mostRows 0) (replicate mostRows 0)
+
 abbrev pub growText : Columns → List ℕ → List ℕ
 growText c log = textOf (replayOf c log)
 
@@ -62,9 +68,9 @@ tableRoom = 16384
 unfoldable pub growRoom : ℕ → ℕ
 growRoom bytes = lineRoom * bytes + tableRoom
 
--- 30 where the buffer is shorter than that; then nothing is written
-unfoldable pub growAnswer : Columns → List ℕ → List ℕ → Answer ℕ
-growAnswer c log buffer = cond (leb (growRoom (length log)) (length buffer)) (answer (length (growText c log))) (refused 30)
+-- the text with its byte count; no room where the buffer is shorter than that, and then nothing is carried out or written
+unfoldable pub growAnswer : Columns → List ℕ → List ℕ → Grown
+growAnswer c log buffer = cond (leb (growRoom (length log)) (length buffer)) (Text (length (growText c log))) NoRoom
 
 unfoldable pub growBuffer : Columns → List ℕ → List ℕ → List ℕ
 growBuffer c log buffer = cond (leb (growRoom (length log)) (length buffer)) (after buffer 0 (growText c log)) buffer

@@ -1,7 +1,7 @@
 // Carrying a log out: the fresh table, the requests one after another, and the text that is printed.
 ghost use mathlib.Core.Path.{_≡_};
 ghost use mathlib.Core.Bool.{false};
-ghost use Prim.Native.Nat.{ℕ, _+_, _*_, _-_, _≤_};
+ghost use Prim.Native.Nat.{_+_, _*_, _-_, _≤_};
 ghost use lib.Dec.{ltb};
 ghost use lib.ListN.{length};
 ghost use Rattle.rules.specs.Answers.{orElse};
@@ -11,6 +11,7 @@ ghost use Rattle.number.specs.Says.{writtenSays};
 ghost use Rattle.table.specs.Says.{countedSays};
 ghost use Rattle.table.specs.Lent.{oldColumns, newColumns, lentColumns};
 ghost use Rattle.lines.specs.Lines.{lineText, columnsBad};
+ghost use Rattle.lines.specs.Says.{lineSays};
 ghost use Rattle.replay.specs.Replay.{growAnswer, growBuffer, growTable, growRoom, lineRoom, tableRoom};
 ghost use Rattle.replay.specs.inside.Carrying.{Countable, carried};
 use fresh::fresh;
@@ -25,6 +26,14 @@ use number::Written;
 use refine::refine;
 use rules::Refusal;
 use table::Counted;
+
+// What carrying out a log answers.
+pub enum Grown {
+    // The text was written, so many bytes of it.
+    Text(usize),
+    // The buffer is shorter than the room that is asked for, and nothing was carried out.
+    NoRoom,
+}
 
 // What the table needs of the text's room.
 const TABLE_ROOM: usize = 16384;
@@ -61,6 +70,17 @@ fn count_after(a: Counted, count: usize) -> usize
     }
 }
 
+// What a request's line says.
+fn line_of(a: Counted) -> Line
+    requires { ⌜ Countable (countedSays a) ⌝ }
+    ensures { λ t. ⌜ lineSays t ≡ countedSays a ⌝ }
+{
+    match a {
+        Counted::Count(n) => Line::Ok(n as u32),
+        Counted::Refused(why) => Line::No(why),
+    }
+}
+
 // Writes a request's line, at most 14 bytes, and answers the position after it.
 fn write_answer(text: &mut [u8], at: usize, a: Counted) -> usize
     requires { ⌜ at + lineRoom ≤ length (now text) ⌝ }
@@ -68,10 +88,8 @@ fn write_answer(text: &mut [u8], at: usize, a: Counted) -> usize
     ensures { λ t. ⌜ t ≡ at + length (lineText (countedSays a)) ⌝ }
     ensures { λ t. ⌜ new text ≡ after (old text) at (lineText (countedSays a)) ⌝ }
 {
-    match a {
-        Counted::Count(n) => at + bytes_of(write_line(text, at, Line::Ok(n as u32))),
-        Counted::Refused(why) => at + bytes_of(write_line(text, at, Line::No(why))),
-    }
+    let line = line_of(a);
+    at + bytes_of(write_line(text, at, line))
 }
 
 // Carries out the requests from a position of the log on, and writes a line for each and then the table; answers how many bytes.
@@ -111,8 +129,8 @@ fn carry_out(
     p + bytes_of(write_table(&mut *text, p, &*id, &*l, &*r, &*q, count))
 }
 
-// Carries out a log on the columns and writes what it says as text: 30, with nothing written, where the buffer is shorter than
-// 14 bytes for each byte of the log and 16384 for the table.
+// Carries out a log on the columns and writes what it says as text; where the buffer is shorter than 14 bytes for each byte of the log
+// and 16384 for the table there is no room, and nothing is written.
 pub fn grow(
     log: &[u8],
     id: &mut [u32],
@@ -120,20 +138,20 @@ pub fn grow(
     r: &mut [u32],
     q: &mut [u32],
     text: &mut [u8],
-) -> Written
-    ensures { λ t. ⌜ writtenSays t ≡ growAnswer (oldColumns id l r q) (old log) (old text) ⌝ }
+) -> Grown
+    ensures { λ t. ⌜ t ≡ growAnswer (oldColumns id l r q) (old log) (old text) ⌝ }
     ensures { λ t. ⌜ new text ≡ growBuffer (oldColumns id l r q) (old log) (old text) ⌝ }
     ensures { λ t. ⌜ newColumns id l r q ≡ growTable (oldColumns id l r q) (old log) (old text) ⌝ }
 {
     if no_room(log.len(), text.len()) {
-        return Written::Refused(Refusal::BufferShort);
+        return Grown::NoRoom;
     }
     match pair_of(log) {
-        PairRead::Refused(why) => write_line(text, 0, Line::No(why)),
+        PairRead::Refused(why) => Grown::Text(write_answer(text, 0, Counted::Refused(why))),
         PairRead::Pair(group, quota, next) => {
             match fresh(&mut *id, &mut *l, &mut *r, &mut *q, group, quota) {
-                Counted::Refused(why) => write_line(text, 0, Line::No(why)),
-                Counted::Count(_) => Written::Bytes(carry_out(log, next, id, l, r, q, text)),
+                Counted::Refused(why) => Grown::Text(write_answer(text, 0, Counted::Refused(why))),
+                Counted::Count(_) => Grown::Text(carry_out(log, next, id, l, r, q, text)),
             }
         }
     }
