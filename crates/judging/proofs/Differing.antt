@@ -9,7 +9,7 @@ use borrow.Author.Tests.{eq-eqb, ne-eqb, lt-leb, not-true}
 use Rattle.rules.specs.Pick.{pick}
 use Rattle.rules.proofs.Bools.{and-both}
 use Rattle.rules.proofs.Cases.{by-eq}
-use Rattle.separate.specs.Separate.{noneIs, allDiffer}
+use Rattle.distinct.specs.Distinct.{noneIs, allDiffer}
 use Rattle.judging.specs.Ids.{timesIn, someId}
 use Rattle.judging.specs.Judging.{takenIn}
 use Rattle.judging.specs.inside.Collecting.{othersThan}

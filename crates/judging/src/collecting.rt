@@ -5,10 +5,10 @@ ghost use mathlib.Core.List.{_++_};
 ghost use Prim.Native.Nat.{_+_, _≤_};
 ghost use lib.ListN.{length};
 ghost use Rattle.rules.specs.Lent.{old, new};
-ghost use Rattle.separate.specs.Separate.{allDiffer};
+ghost use Rattle.distinct.specs.Distinct.{allDiffer};
 ghost use Rattle.judging.specs.inside.Collecting.{idCapacity, othersThan, Collects};
+use distinct::ids_differ;
 use rules::ROW_CAPACITY;
-use separate::ids_separate;
 
 // Count + entries of a request that is accepted is at most this.
 const ID_CAPACITY: usize = ROW_CAPACITY + 1;
@@ -42,5 +42,5 @@ pub(crate) fn others_differ(id: &[u32], exploded: u32, ids: &[u32]) -> bool
     let mut all = [0; ID_CAPACITY];
     let n = collect(id, exploded, 0, &mut all);
     let m = collect(ids, exploded, n, &mut all);
-    ids_separate(&all[..m])
+    ids_differ(&all[..m])
 }

@@ -1,4 +1,3 @@
 pub mod Certificate
-pub mod Chains
 pub mod Pairs
 pub mod Sorting

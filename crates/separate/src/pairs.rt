@@ -1,52 +1,15 @@
-// Ids and boxes two by two.
+// Boxes two by two.
 ghost use mathlib.Core.Path.{_≡_};
 ghost use Prim.Native.Nat.{_<_};
 ghost use lib.ListN.{length};
 ghost use Rattle.rules.specs.Lent.{old};
-ghost use Rattle.separate.specs.Separate.{allDiffer, boxesOf, allDisjoint};
-ghost use Rattle.separate.specs.inside.Pairs.{IdsAbove, BoxesAbove};
+ghost use Rattle.separate.specs.Separate.{boxesOf, allDisjoint};
+ghost use Rattle.separate.specs.inside.Pairs.{BoxesAbove};
 use crate::certifying::ranges_certified;
-use crate::chains::ids_chained;
 use boxes::Box;
-use rules::ROW_CAPACITY;
 
 // Fewer rows than these are sooner compared two by two.
 pub(crate) const MANY_ROWS: usize = 8;
-
-// One of the ids above the i-th is equal to it.
-fn id_above(ids: &[u32], i: usize) -> bool
-    requires { ⌜ i < length (now ids) ⌝ }
-    ensures { λ t. ⌜ IdsAbove (old ids) i t ⌝ }
-{
-    let own = ids[i];
-    let mut j = 0;
-    while j < i {
-        if ids[j] == own {
-            return true;
-        }
-        j += 1;
-    }
-    false
-}
-
-// No two ids are equal. Where they are few, or more than the chains hold, the pairs decide.
-pub fn ids_separate(ids: &[u32]) -> bool
-    ensures { λ t. ⌜ t ≡ allDiffer (old ids) ⌝ }
-{
-    if MANY_ROWS <= ids.len() {
-        if ids.len() <= ROW_CAPACITY {
-            return ids_chained(ids);
-        }
-    }
-    let mut i = 0;
-    while i < ids.len() {
-        if id_above(ids, i) {
-            return false;
-        }
-        i += 1;
-    }
-    true
-}
 
 // One of the boxes above row i's meets it.
 fn box_above(l: &[u32], r: &[u32], q: &[u32], i: usize) -> bool

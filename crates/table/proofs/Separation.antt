@@ -9,7 +9,8 @@ use lib.ListN.{length, getD, take, drop}
 use lib.Seq.{drop-cons}
 use Rattle.boxes.specs.Boxes.{boxOf, disjoint, apart}
 use Rattle.boxes.specs.declared.Box.{Box}
-use Rattle.separate.specs.Separate.{noneIs, allDiffer, boxesOf, noneMeets, allDisjoint}
+use Rattle.distinct.specs.Distinct.{noneIs, allDiffer}
+use Rattle.separate.specs.Separate.{boxesOf, noneMeets, allDisjoint}
 use Rattle.table.specs.Columns.{Row, lowL, lowR, sizeOf, Columns, rowAt, rowsFrom, rows}
 use Rattle.table.specs.Check.{someRow, somePair, sameId, rangesMeet}
 use Rattle.table.specs.inside.Held.{Holds}

@@ -8,11 +8,11 @@ ghost use Rattle.table.specs.Lent.{oldColumns, lentColumns};
 ghost use Rattle.table.specs.inside.Held.{Holds};
 use crate::Checked;
 use boxes::Box;
+use distinct::ids_differ;
 use rules::GREATEST;
 use rules::MOST_ROWS;
 use rules::Refusal;
 use separate::boxes_separate;
-use separate::ids_separate;
 
 // 10: lengths differ or not 1 to 256.
 pub fn lengths_bad(id: &[u32], l: &[u32], r: &[u32], q: &[u32]) -> bool
@@ -59,7 +59,7 @@ fn check_rows(id: &[u32], l: &[u32], r: &[u32], q: &[u32], count: usize) -> Chec
     if some_value_bad(id, l, r, q, count) {
         return Checked::Refused(Refusal::RowValue);
     }
-    if !ids_separate(&id[..count]) {
+    if !ids_differ(&id[..count]) {
         return Checked::Refused(Refusal::RowIds);
     }
     if !boxes_separate(&l[..count], &r[..count], &q[..count]) {

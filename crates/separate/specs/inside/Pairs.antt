@@ -7,11 +7,6 @@ use lib.ListN.{getD}
 use Rattle.boxes.specs.Boxes.{boxOf, disjoint}
 use Rattle.boxes.specs.declared.Box.{Box}
 
--- one of the ids is equal to the i-th, or none is
-pub record IdsAbove (ids : List ℕ) (i : ℕ) (t : Bool) : Type 0 where
-  pub same : t ≡ true → (j : ℕ) × (j < i) × (getD ids j 0 ≡ getD ids i 0)
-  pub none : t ≡ false → (j : ℕ) → j < i → getD ids j 0 ≡ getD ids i 0 → ⊥
-
 -- row i's box
 abbrev pub boxAt : List ℕ → List ℕ → List ℕ → ℕ → Box
 boxAt l r q i = boxOf (getD l i 0) (getD r i 0) (getD q i 0)

@@ -6,7 +6,7 @@ use native.Mathlib.Omega.{arith}
 use lib.ListN.{length}
 use lib.Seq.{length-take-le}
 use denote.Ref.{now}
-use Rattle.separate.specs.Separate.{allDiffer}
+use Rattle.distinct.specs.Distinct.{allDiffer}
 use Rattle.judging.specs.inside.Collecting.{idCapacity}
 use Rattle.judging.proofs.CollectingLaws.{others-most, collected, collected-length}
 use borrow.Author.Needs.{needs}
@@ -45,4 +45,4 @@ others-differ-spec =
     (λ c e.
     let f : tie.After-collect = search in
     let g : tie.After-collect2 = search in
-    sym (ap allDiffer (collected (f .collect .ensures) (g .collect2 .ensures) (omega (arith, most g)))) ∙ (sym (c .ids-separate .ensures) ∙ e)))
+    sym (ap allDiffer (collected (f .collect .ensures) (g .collect2 .ensures) (omega (arith, most g)))) ∙ (sym (c .ids-differ .ensures) ∙ e)))

@@ -17,8 +17,8 @@ cols s = let a = s .args in lentColumns (a .id) (a .l) (a .r) (a .q)
 values : (c : tie.Else1) → let s : tie.Start = search in someRow valueBad (rows (cols s) (s .args .count)) ≡ false
 values c = sym (c .before .some-value-bad .ensures) ∙ c .if1 .left
 
-ids : {b : Bool} (c : tie.After-ids-separate) → not (c .ids-separate .result) ≡ b → let s : tie.Start = search in somePair sameId (rows (cols s) (s .args .count)) ≡ b
-ids c = let s : tie.Start = search in twelve (cols s) (s .args .count) (s .pre) (c .ids-separate .ensures)
+ids : {b : Bool} (c : tie.After-ids-differ) → not (c .ids-differ .result) ≡ b → let s : tie.Start = search in somePair sameId (rows (cols s) (s .args .count)) ≡ b
+ids c = let s : tie.Start = search in twelve (cols s) (s .args .count) (s .pre) (c .ids-differ .ensures)
 
 boxes : {b : Bool} (c : tie.After-boxes-separate) → not (c .boxes-separate .result) ≡ b → let s : tie.Start = search in somePair rangesMeet (rows (cols s) (s .args .count)) ≡ b
 boxes c = let s : tie.Start = search in thirteen (cols s) (s .args .count) (s .pre) (c .boxes-separate .ensures)

@@ -4,10 +4,15 @@ ghost use Prim.Native.Nat.{_≤_, _<_};
 ghost use lib.ListN.{length};
 ghost use Rattle.rules.specs.Capacities.{rowCapacity};
 ghost use Rattle.rules.specs.Lent.{old};
-ghost use Rattle.separate.specs.Separate.{allDiffer};
-ghost use Rattle.separate.specs.inside.Chains.{slots, slotOf, Chained, InChain};
-use crate::widening::wide;
+ghost use Rattle.distinct.specs.Distinct.{allDiffer};
+ghost use Rattle.distinct.specs.inside.Chains.{slots, slotOf, Chained, InChain};
 use rules::ROW_CAPACITY;
+
+fn wide(x: u16) -> usize
+    ensures { λ t. ⌜ t ≡ x ⌝ }
+{
+    x as usize
+}
 
 // How many slots there are.
 const SLOTS: usize = 256;

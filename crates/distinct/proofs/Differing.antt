@@ -7,7 +7,7 @@ use native.Mathlib.Omega.{arith}
 use lib.Dec.{eqb}
 use lib.ListN.{length, getD}
 use borrow.Author.Tests.{eq-eqb, ne-eqb}
-use Rattle.separate.specs.Separate.{noneIs, allDiffer}
+use Rattle.distinct.specs.Distinct.{noneIs, allDiffer}
 
 -- of the first n ids no two are equal
 abbrev pub Differ : List ℕ → ℕ → Type 0

@@ -1,12 +1,12 @@
--- `separate::chains::in_chain` meets its contract. The loop's invariant: none of the ids passed is x.
+-- `distinct::chains::in_chain` meets its contract. The loop's invariant: none of the ids passed is x.
 use mathlib.Core.Path.{sym}
 use mathlib.Core.Bool.{true≢false}
 use Prim.Native.Nat.{_-_}
 use native.Mathlib.Omega.{arith}
-use Rattle.separate.proofs.Chaining.{Walk, walk-begun, walk-on}
+use Rattle.distinct.proofs.Chaining.{Walk, walk-begun, walk-on}
 use borrow.Author.Needs.{needs}
-use Rattle.separate.proofs.chains.in_chain.Statement.{statement}
-use Rattle.separate.proofs.chains.in_chain.Tie as tie
+use Rattle.distinct.proofs.chains.in_chain.Statement.{statement}
+use Rattle.distinct.proofs.chains.in_chain.Tie as tie
 
 abbrev Inv-loop : tie.InvT-loop
 Inv-loop ids next count link x at₀ at = Walk ids count link x at

@@ -1,13 +1,13 @@
--- `separate::pairs::ids_separate` meets its contract. The loop's invariant: no two of the ids passed are equal.
+-- `distinct::pairs::ids_differ` meets its contract. The loop's invariant: no two of the ids passed are equal.
 use mathlib.Core.Path.{sym}
 use Prim.Native.Nat.{_-_}
 use native.Mathlib.Omega.{arith}
 use lib.ListN.{length}
 use borrow.Author.Count.{below-more}
-use Rattle.separate.proofs.Differing.{Differ, all-differ, two-same}
+use Rattle.distinct.proofs.Differing.{Differ, all-differ, two-same}
 use borrow.Author.Needs.{needs}
-use Rattle.separate.proofs.pairs.ids_separate.Statement.{statement}
-use Rattle.separate.proofs.pairs.ids_separate.Tie as tie
+use Rattle.distinct.proofs.pairs.ids_differ.Statement.{statement}
+use Rattle.distinct.proofs.pairs.ids_differ.Tie as tie
 
 abbrev Inv-loop : tie.InvT-loop
 Inv-loop ids i₀ i = Differ ids i
@@ -15,8 +15,8 @@ Inv-loop ids i₀ i = Differ ids i
 abbrev μ-loop : tie.MeasureT-loop
 μ-loop ids i₀ i = length ids - i
 
-pub ids-separate-spec : {M : Type 1} → statement M
-ids-separate-spec =
+pub ids-differ-spec : {M : Type 1} → statement M
+ids-differ-spec =
     tie.close
     (tie.spec Inv-loop μ-loop
     (λ c κs. search needs) (λ c. search needs)

@@ -9,8 +9,8 @@ use lib.Seq.{getD-set-same, getD-set-other}
 use borrow.Author.Count.{below-more}
 use Rattle.rules.specs.Capacities.{rowCapacity}
 use Rattle.rules.proofs.Cases.{by-eq, by-lt}
-use Rattle.separate.specs.inside.Chains.{slots, slotOf, slotAt, Links, Heads, Chained, InChain}
-use Rattle.separate.proofs.Differing.{Differ}
+use Rattle.distinct.specs.inside.Chains.{slots, slotOf, slotAt, Links, Heads, Chained, InChain}
+use Rattle.distinct.proofs.Differing.{Differ}
 
 -- the walk is at a link: of the ids passed none in x's slot is x
 pub record Walk (ids : List ℕ) (count link x at : ℕ) : Type 0 where

@@ -1,13 +1,13 @@
--- `separate::chains::ids_chained` meets its contract. The loop's invariant: the ids passed are in their chains, and all differ.
+-- `distinct::chains::ids_chained` meets its contract. The loop's invariant: the ids passed are in their chains, and all differ.
 use mathlib.Core.Path.{refl, sym}
 use Prim.Native.Nat.{_-_}
 use native.Mathlib.Omega.{arith}
 use lib.ListN.{length}
-use Rattle.separate.proofs.Differing.{all-differ, two-same}
-use Rattle.separate.proofs.Chaining.{Chains, chains-none, chained, chains-more}
+use Rattle.distinct.proofs.Differing.{all-differ, two-same}
+use Rattle.distinct.proofs.Chaining.{Chains, chains-none, chained, chains-more}
 use borrow.Author.Needs.{needs}
-use Rattle.separate.proofs.chains.ids_chained.Statement.{statement}
-use Rattle.separate.proofs.chains.ids_chained.Tie as tie
+use Rattle.distinct.proofs.chains.ids_chained.Statement.{statement}
+use Rattle.distinct.proofs.chains.ids_chained.Tie as tie
 
 abbrev Inv-loop : tie.InvT-loop
 Inv-loop ids head₀ next₀ i₀ head next i = Chains ids head next i

@@ -1,4 +1,4 @@
--- `separate::pairs::id_above` meets its contract. The loop's invariant: no id passed is equal.
+-- `distinct::pairs::id_above` meets its contract. The loop's invariant: no id passed is equal.
 use mathlib.Core.Path.{_≡_, refl, sym, _∙_}
 use mathlib.Core.Bool.{true≢false}
 use Prim.Native.Nat.{_-_, _<_}
@@ -6,8 +6,8 @@ use native.Mathlib.Omega.{arith}
 use lib.ListN.{getD}
 use borrow.Author.Count.{below-more}
 use borrow.Author.Needs.{needs}
-use Rattle.separate.proofs.pairs.id_above.Statement.{statement}
-use Rattle.separate.proofs.pairs.id_above.Tie as tie
+use Rattle.distinct.proofs.pairs.id_above.Statement.{statement}
+use Rattle.distinct.proofs.pairs.id_above.Tie as tie
 
 abbrev Inv-loop : tie.InvT-loop
 Inv-loop ids i own j₀ j = (own ≡ getD ids i 0) × ((k : _) → k < j → getD ids k 0 ≡ getD ids i 0 → ⊥)
