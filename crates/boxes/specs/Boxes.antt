@@ -1,4 +1,4 @@
--- Ranges and boxes (document 01, "The table"): a group's box is the l range from l to l + q − 1 and the r range from r to r + q − 1.
+-- Ranges and boxes (RULES.md, 3): a group's box is the l range from l to l + q − 1 and the r range from r to r + q − 1.
 use Prim.Native.Nat.{ℕ, _+_, _-_}
 use mathlib.Core.Bool.{Bool, true, false, cond, _&&_, _||_}
 use mathlib.Core.List.{List}

@@ -1,4 +1,4 @@
-// Boxes in the l–r plane: a group's l range and r range (document 01, "The table"). The two coordinates are types of their own, and the
+// Boxes in the l–r plane: a group's l range and r range (RULES.md, 3). The two coordinates are types of their own, and the
 // number of each is private to its module, so that a comparison of an l-value with an r-value can't be written.
 mod left;
 mod plain;

@@ -1,4 +1,4 @@
--- The one number that a call answers outside: a kind and a value. A kind's number stands here once.
+-- The one number that a call answers outside: a kind and a value (RULES.md, 17). A kind's number stands here once.
 use Prim.Native.Nat.{ℕ, _+_, _*_}
 use Rattle.rules.specs.Answers.{Answer, answer, refused}
 use Rattle.rules.specs.Limits.{greatest}

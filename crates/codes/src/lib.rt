@@ -1,4 +1,4 @@
-// Answers as one number: a kind and a value.
+// Answers as one number: a kind and a value (RULES.md, 17).
 ghost use mathlib.Core.Path.{_≡_};
 ghost use Rattle.order.specs.Says.{orderedSays};
 ghost use Rattle.decide.specs.Says.{decidedSays};

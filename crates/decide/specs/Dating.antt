@@ -1,4 +1,4 @@
--- What windows say on a day (document 01, "Grants and decisions").
+-- What windows say on a day (RULES.md, 10).
 use Prim.Native.Nat.{ℕ, min, max}
 use mathlib.Core.Bool.{Bool, false, cond, not, _&&_, _||_}
 use mathlib.Core.List.{List, [], _∷_}

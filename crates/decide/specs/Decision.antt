@@ -1,4 +1,4 @@
--- Decisions (document 01, "Grants and decisions"), in three steps: the grants are read; the windows of those that apply, in list order;
+-- Decisions (RULES.md, 10), in three steps: the grants are read; the windows of those that apply, in list order;
 -- then what the windows say on a day.
 use Prim.Native.Nat.{ℕ}
 use mathlib.Core.Bool.{Bool, cond, _||_}

@@ -1,4 +1,4 @@
--- The number and the values of document 01 for each case of the answer.
+-- What each case of the answer says: the values, or the number of the refusal (RULES.md, 12).
 use Rattle.rules.specs.Answers.{Answer, answer, refused}
 use Rattle.rules.specs.Refusals.{refusalNumber}
 use Rattle.decide.specs.Dating.{Decision, onOpen, onUntil, ended, ahead, never}

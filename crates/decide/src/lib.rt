@@ -1,4 +1,4 @@
-// The decision on a feature for a pass (document 01, "Grants and decisions"): the grants are read, matched, and their windows dated.
+// The decision on a feature for a pass (RULES.md, 10): the grants are read, matched, and their windows dated.
 mod dating;
 
 ghost use mathlib.Core.Path.{_≡_};

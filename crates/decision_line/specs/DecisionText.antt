@@ -1,4 +1,4 @@
--- What `may` prints (document 01): `on` with a day or `open`, `ended` or `ahead` with a day, `never`, or `no` with the refusal; one space
+-- What `may` prints (RULES.md, 14.2): `on` with a day or `open`, `ended` or `ahead` with a day, `never`, or `no` with the refusal; one space
 -- between fields, a line feed at the end.
 use Prim.Native.Nat.{ℕ}
 use mathlib.Core.List.{List, _++_}

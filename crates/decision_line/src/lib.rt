@@ -1,4 +1,4 @@
-// The line that `may` prints, written into a lent buffer.
+// The line that `may` prints (RULES.md, 14.2), written into a lent buffer.
 ghost use mathlib.Core.Path.{_≡_};
 ghost use Rattle.rules.specs.Buffers.{written, after};
 ghost use Rattle.rules.specs.Lent.{old, new};

@@ -1,4 +1,4 @@
--- Ids that differ, two by two.
+-- Ids that differ, two by two (RULES.md, 3).
 use Prim.Native.Nat.{ℕ}
 use mathlib.Core.Bool.{Bool, true, not, _&&_}
 use mathlib.Core.List.{List, [], _∷_}

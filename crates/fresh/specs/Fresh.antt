@@ -1,4 +1,4 @@
--- Fresh takes an id and a quota and writes row 0: l = 1, r = 1. Count 1. 10 for lengths, then 11 for id or quota 0.
+-- Fresh (RULES.md, 4) takes an id and a quota and writes row 0: l = 1, r = 1. Count 1. 10 for lengths, then 11 for id or quota 0.
 use Prim.Native.Nat.{ℕ}
 use mathlib.Core.Bool.{cond, _||_}
 use mathlib.Core.List.{List, [], _∷_}

@@ -1,4 +1,4 @@
-// A fresh table: one group that has the whole quota.
+// A fresh table (RULES.md, 4): one group that has the whole quota.
 ghost use mathlib.Core.Path.{_≡_};
 ghost use Rattle.table.specs.Columns.{counted, afterwards};
 ghost use Rattle.table.specs.Lent.{oldColumns, newColumns};

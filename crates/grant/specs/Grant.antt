@@ -1,4 +1,4 @@
--- Grants (document 01, "Grants and decisions"): a grant is feature, l, r, first day, last day; the grant list is grants until its bytes end.
+-- Grants (RULES.md, 9): a grant is feature, l, r, first day, last day; the grant list is grants until its bytes end.
 use Prim.Native.Nat.{ℕ, zero, suc}
 use mathlib.Core.Bool.{Bool, false, cond, not, _&&_, _||_}
 use mathlib.Core.List.{List, [], _∷_, _++_}

@@ -1,4 +1,4 @@
--- What the code's grants and answers say, in document 01's numbers and values.
+-- What the code's grants and answers say, in the numbers and values of RULES.md, 9 and 12.
 use Rattle.rules.specs.Answers.{Answer, answer, refused}
 use Rattle.rules.specs.Refusals.{refusalNumber}
 use Rattle.grant.specs.Grant.{Grant, grant, GrantRead}

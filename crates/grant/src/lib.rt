@@ -1,4 +1,4 @@
-// Grants and how they are read (document 01, "Grants and decisions").
+// Grants and how they are read (RULES.md, 9).
 ghost use mathlib.Core.Path.{_≡_};
 ghost use Rattle.grant.specs.Grant.{grant, grantBad, checkedGrant, grantAt};
 ghost use Rattle.grant.specs.Says.{grantSays};

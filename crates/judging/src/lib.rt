@@ -1,4 +1,4 @@
-// Judging: the refusals 20 to 24 of a request that was read, found without a write.
+// Judging: the refusals 20 to 24 (RULES.md, 7) of a request that was read, found without a write.
 mod collecting;
 mod judging;
 

@@ -1,4 +1,4 @@
--- A list of refine and order calls, given to the ledger and to the engine.
+-- A list of refine and order calls (RULES.md, 16), given to the ledger and to the engine.
 use Prim.Native.Nat.{ℕ}
 use mathlib.Core.Bool.{Bool, false, _||_}
 use mathlib.Core.List.{List, [], _∷_}

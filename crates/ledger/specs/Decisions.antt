@@ -1,4 +1,4 @@
--- The decision by the ledger's order (document 01, "Grants and decisions"): a pass and each grant stand for groups.
+-- The decision by the ledger's order (RULES.md, 15): a pass and each grant stand for groups.
 use Prim.Native.Nat.{ℕ}
 use mathlib.Core.Bool.{Bool, false, cond, not, _&&_, _||_}
 use mathlib.Core.List.{List, [], _∷_}

@@ -1,4 +1,4 @@
--- Demand 3: a single claim about the whole list (document 01, "The ledger"). `demand-3` of proofs/Whole.antt proves it for every list
+-- Demand 3: a single claim about the whole list (RULES.md, 16). `demand-3` of proofs/Whole.antt proves it for every list
 -- after every accepted fresh. docs/PROOF-MAP.md lists the wrong engines that it shuts out.
 use Prim.Native.Nat.{ℕ, _≤_}
 use mathlib.Core.Path.{_≡_}

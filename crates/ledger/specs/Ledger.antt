@@ -1,4 +1,4 @@
--- The paper ledger (document 01, "The ledger"). It is fed the column length, the fresh id and quota, and the calls' bytes and ids, and nothing from the table.
+-- The paper ledger (RULES.md, 15). It is fed the column length, the fresh id and quota, and the calls' bytes and ids, and nothing from the table.
 -- With the engine it shares how a request is read and accepted, its sequences, `before`, `without`, the names of the order's answers (`orderBy`), and in Decisions the dating of windows.
 use Prim.Native.Nat.{ℕ, _+_}
 use mathlib.Core.Bool.{Bool, cond, not, _&&_, _||_}

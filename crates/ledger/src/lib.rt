@@ -1,2 +1,2 @@
-// The paper ledger (document 01) and demand 3.
+// The paper ledger (RULES.md, 15) and demand 3.
 // Definitions and proofs alone.

@@ -1,4 +1,4 @@
--- What `grow` prints (document 01): one space between fields, a line feed after every line.
+-- What `grow` prints (RULES.md, 14.1): one space between fields, a line feed after every line.
 use Prim.Native.Nat.{ℕ}
 use Prim.Native.Char.{code}
 use Prim.Native.String.{String, [] as []ᵀ, _∷_ as _∷ᵀ_}

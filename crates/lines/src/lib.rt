@@ -1,4 +1,4 @@
-// What the programs print, written into a lent buffer: a word and a number on a line, the line for a request, and a table.
+// What the programs print (RULES.md, 14), written into a lent buffer: a word and a number on a line, the line for a request, and a table.
 mod answers;
 mod fields;
 mod tables;

@@ -1,4 +1,4 @@
-// A table read in from bytes (document 01, "Stored table"): into work columns first, and into the caller's once 13 is known.
+// A table read in from bytes (RULES.md, 11): into work columns first, and into the caller's once 13 is known.
 ghost use mathlib.Core.Path.{_≡_};
 ghost use Prim.Native.Nat.{_≤_};
 ghost use lib.ListN.{length};

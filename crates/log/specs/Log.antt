@@ -1,4 +1,4 @@
--- A log (document 01, program `grow`): id, quota, then requests, each after its byte length as a number.
+-- A log (RULES.md, 14.1): id, quota, then requests, each after its byte length as a number.
 use Prim.Native.Nat.{ℕ, zero, suc, _+_, _-_}
 use mathlib.Core.Bool.{cond}
 use mathlib.Core.List.{List, [], _∷_, _++_, flatMap}

@@ -1,4 +1,4 @@
-// A log's reading: its fresh pair, and where each request stands.
+// A log's reading (RULES.md, 14.1): its fresh pair, and where each request stands.
 ghost use mathlib.Core.Path.{_≡_};
 ghost use Rattle.rules.specs.Lent.{old};
 ghost use Rattle.log.specs.Log.{pairOf, partAt};

@@ -1,4 +1,4 @@
--- Which grants apply, and their days (document 01, "Grants and decisions"). What "applies" means is a parameter of `windows`, so that a
+-- Which grants apply, and their days (RULES.md, 9). What "applies" means is a parameter of `windows`, so that a
 -- pass's numbers and the ledger's order share it.
 use Prim.Native.Nat.{ℕ}
 use mathlib.Core.Bool.{Bool, cond, _&&_}

@@ -1,4 +1,4 @@
-// Which grants apply to a pass and a feature (document 01, "Grants and decisions").
+// Which grants apply to a pass and a feature (RULES.md, 9).
 ghost use mathlib.Core.Path.{_≡_};
 ghost use mathlib.Core.Bool.{_&&_};
 ghost use lib.Dec.{leb};

@@ -1,4 +1,4 @@
--- Stored numbers (document 01, "Numbers in bytes"): groups of seven bits, lowest group first; the top bit of a byte is set when another byte follows.
+-- Stored numbers (RULES.md, 2): groups of seven bits, lowest group first; the top bit of a byte is set when another byte follows.
 use Prim.Native.Nat.{ℕ, zero, suc, _+_, _*_, _/_, _%_}
 use mathlib.Core.Bool.{Bool, true, false, cond, not, _&&_}
 use mathlib.Core.List.{List, [], _∷_}

@@ -1,4 +1,4 @@
-// Numbers in their stored form (document 01, "Numbers in bytes").
+// Numbers in their stored form (RULES.md, 2).
 ghost use mathlib.Core.Path.{_≡_};
 ghost use mathlib.Core.Bool.{false};
 ghost use Prim.Native.Nat.{_<_};

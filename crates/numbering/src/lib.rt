@@ -1,4 +1,4 @@
-// Numbering: a request's entries are read, and each is given its offsets in L and in R.
+// Numbering: a request's entries are read, and each is given its offsets in L and in R (RULES.md, 6).
 mod requests;
 mod trees;
 

@@ -1,4 +1,4 @@
--- The order of two groups (document 01, "Requests").
+-- The order of two groups (RULES.md, 8).
 use Prim.Native.Nat.{ℕ}
 use mathlib.Core.Bool.{Bool, cond, _&&_}
 use mathlib.Core.List.{List, [], _∷_}

@@ -1,4 +1,4 @@
--- The number and the values of document 01 for each case of order's answer.
+-- What each case of order's answer says: the values, or the number of the refusal (RULES.md, 8, 12).
 use Rattle.rules.specs.Answers.{Answer, answer, refused}
 use Rattle.rules.specs.Refusals.{refusalNumber}
 use Rattle.order.specs.Order.{Order, same, first, second, incomparable}

@@ -1,4 +1,4 @@
-// The order of two groups of a table.
+// The order of two groups of a table (RULES.md, 8).
 ghost use mathlib.Core.Path.{_≡_};
 ghost use mathlib.Core.List.{[]};
 ghost use Prim.Native.Nat.{_<_};

@@ -1,4 +1,4 @@
--- What an accepted request promises of the rows after it (document 01, "Requests").
+-- What an accepted request promises of the rows after it (RULES.md, 7).
 use Prim.Native.Nat.{ℕ, _+_, _-_, _≤_}
 use mathlib.Core.Path.{_≡_}
 use mathlib.Core.Bool.{Bool, true}

@@ -1,1 +1,1 @@
-// What an accepted request promises of the table's rows after it (document 01, "Requests"). Theorems on the definition of refine alone.
+// What an accepted request promises of the table's rows after it (RULES.md, 7). Theorems on the definition of refine alone.

@@ -1,4 +1,4 @@
--- Three numbers that stand one after another (document 01, "Numbers in bytes"), each as it was drawn.
+-- Three numbers that stand one after another (RULES.md, 2), each as it was drawn.
 use Prim.Native.Nat.{ℕ}
 use mathlib.Core.List.{List}
 use Rattle.rules.specs.Answers.{Answer, answer, then, orElse}

@@ -1,4 +1,4 @@
-// The reader that draws numbers one after another (document 01, "Numbers in bytes").
+// The reader that draws numbers one after another (RULES.md, 2).
 ghost use mathlib.Core.Path.{_≡_};
 ghost use Rattle.number.specs.Number.{numberAt};
 ghost use Rattle.number.specs.Says.{drawnSays};

@@ -1,4 +1,4 @@
-// Reading a request: its bytes, drawn into work columns that hold its entries in their order.
+// Reading a request (RULES.md, 5.2): its bytes, drawn into work columns that hold its entries in their order.
 ghost use mathlib.Core.Path.{_≡_};
 ghost use Prim.Native.Nat.{_≤_};
 ghost use Rattle.rules.specs.Limits.{mostEntries};

@@ -1,4 +1,4 @@
--- Refine (document 01, "Requests"): the table's rows after an accepted request.
+-- Refine (RULES.md, 7): the table's rows after an accepted request.
 use mathlib.Core.Bool.{cond}
 use mathlib.Core.List.{List, [], _∷_, _++_, map}
 use Prim.Native.Nat.{ℕ, _+_}

@@ -1,4 +1,4 @@
-// Refine: a group is exploded into the entries of a request.
+// Refine (RULES.md, 7): a group is exploded into the entries of a request.
 mod placing;
 mod refining;
 

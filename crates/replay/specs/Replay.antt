@@ -1,4 +1,4 @@
--- What a log leads to (document 01, program `grow`): the table after it, and the text that is printed.
+-- What a log leads to (RULES.md, 14.1): the table after it, and the text that is printed.
 use Prim.Native.Nat.{ℕ, _+_, _*_}
 use mathlib.Core.Bool.{cond}
 use mathlib.Core.List.{List, [], _++_, flatMap}

@@ -1,4 +1,4 @@
--- Requests carried out one after another on a table (document 01, program `grow`).
+-- Requests carried out one after another on a table (RULES.md, 14.1).
 use Prim.Native.Nat.{ℕ}
 use mathlib.Core.List.{List, [], _∷_}
 use Rattle.rules.specs.Answers.{Answer}

@@ -1,4 +1,4 @@
-// Carrying a log out: the fresh table, the requests one after another, and the text that is printed.
+// Carrying a log out (RULES.md, 14.1): the fresh table, the requests one after another, and the text that is printed.
 ghost use mathlib.Core.Path.{_≡_};
 ghost use mathlib.Core.Bool.{false};
 ghost use Prim.Native.Nat.{_+_, _*_, _-_, _≤_};

@@ -1,4 +1,4 @@
--- The bytes of a request (document 01, "Requests").
+-- The bytes of a request (RULES.md, 5.1).
 use mathlib.Core.List.{List, [], _++_}
 use Prim.Native.Nat.{ℕ, suc}
 use Rattle.number.specs.Number.{bytesOf}

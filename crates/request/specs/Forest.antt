@@ -1,4 +1,4 @@
--- The trees of a request, their sequences and their order (document 01, "Requests").
+-- The trees of a request, their sequences and their order (RULES.md, 6).
 use mathlib.Core.Bool.{Bool, false, _&&_, _||_}
 use mathlib.Core.List.{List, [], _∷_, _++_}
 use Prim.Native.Nat.{ℕ}

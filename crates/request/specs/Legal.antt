@@ -1,4 +1,4 @@
--- A legal request: one within the limits of document 01.
+-- A legal request: one within the limits of RULES.md, 1.
 use Prim.Native.Nat.{ℕ, suc, _≤_}
 use lib.Dec.{leb}
 use lib.ListN.{length}

@@ -1,4 +1,4 @@
--- The numbers of a forest's entries, in the request's order, as a walk over the trees finds them: b is where the trees' part begins.
+-- The numbers of a forest's entries (RULES.md, 6), in the request's order, as a walk over the trees finds them: b is where the trees' part begins.
 use mathlib.Core.List.{List, [], _∷_, _++_}
 use Prim.Native.Nat.{ℕ, suc, _+_}
 use Rattle.request.specs.Entries.{quota}

@@ -1,4 +1,4 @@
--- Reading a request's bytes (document 01, "Requests" and the refusals 1 to 7), from left to right; the first refusal met counts.
+-- Reading a request's bytes (RULES.md, 5.2), from left to right; the first refusal met counts.
 use Prim.Native.Nat.{ℕ, zero, suc, _+_}
 use mathlib.Core.Bool.{cond}
 use mathlib.Core.List.{List}

@@ -1,4 +1,4 @@
--- A request: the group to explode, the direction, and the trees.
+-- A request (RULES.md, 5): the group to explode, the direction, and the trees.
 use mathlib.Core.List.{List}
 use Prim.Native.Nat.{ℕ}
 use Rattle.request.specs.Entries.{Entry}

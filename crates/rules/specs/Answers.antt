@@ -1,4 +1,4 @@
--- What a call answers: what it found, or the number of its refusal in document 01.
+-- What a call answers: what it found, or the number of its refusal (RULES.md, 12).
 use Prim.Native.Nat.{ℕ}
 
 pub data Answer (A : Type 0) : Type 0 where

@@ -1,4 +1,4 @@
--- Bytes written into a lent buffer (document 01, "Stored table"): a writer answers the byte count, and bytes after it in the buffer stay.
+-- Bytes written into a lent buffer (RULES.md, 2): a writer answers the byte count, and bytes after it in the buffer stay.
 use Prim.Native.Nat.{ℕ, _+_, _<_}
 use mathlib.Core.Bool.{Bool, cond}
 use mathlib.Core.List.{List, _++_}

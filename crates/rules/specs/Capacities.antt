@@ -1,4 +1,4 @@
--- What the code can hold, apart from the limits of document 01: how long its work arrays are, and how far 32 bits reach.
+-- What the code can hold, apart from the limits of RULES.md, 1: how long its work arrays are, and how far 32 bits reach.
 -- A tighter limit moves none of these.
 use Prim.Native.Nat.{ℕ}
 use Rattle.rules.specs.Limits.{greatest, mostRows, mostEntries}

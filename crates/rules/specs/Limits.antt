@@ -1,4 +1,4 @@
--- The limits of document 01: by these names in definitions and contracts, and by those of src/lib.rt in code.
+-- The limits of RULES.md, 1: by these names in definitions and contracts, and by those of src/lib.rt in code.
 use Prim.Native.Nat.{ℕ}
 
 -- the greatest value of a number

@@ -1,4 +1,4 @@
--- The number of each refusal (document 01, "Where each check is made").
+-- The number of each refusal (RULES.md, 12).
 use Prim.Native.Nat.{ℕ}
 use Rattle.rules.specs.declared.Refusal.{Refusal}
 use Rattle.rules.specs.declared.Refusal.the-variants as refusal

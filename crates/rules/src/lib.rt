@@ -1,4 +1,4 @@
-// What every layer shares: the limits, and the refusals with their numbers.
+// What every layer shares: the limits (RULES.md, 1), and the refusals with their numbers (RULES.md, 12).
 ghost use mathlib.Core.Path.{_≡_};
 ghost use Rattle.rules.specs.Refusals.{refusalNumber};
 
@@ -16,7 +16,7 @@ pub const ROW_CAPACITY: usize = MOST_ROWS;
 
 pub const ENTRY_CAPACITY: usize = MOST_ENTRIES;
 
-// Why a call is refused: a case for each row of document 01's table "Where each check is made".
+// Why a call is refused: a case for each row of the table of RULES.md, 12.
 pub enum Refusal {
     // Bytes end before the number does.
     NumberCut,
@@ -59,7 +59,7 @@ pub enum Refusal {
 }
 
 impl Refusal {
-    // The refusal's number in document 01.
+    // The refusal's number (RULES.md, 12).
     pub fn number(self) -> u32
         ensures { λ n. ⌜ n ≡ refusalNumber self ⌝ }
     {

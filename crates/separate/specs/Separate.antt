@@ -1,4 +1,4 @@
--- Boxes that are disjoint, two by two.
+-- Boxes that are disjoint, two by two (RULES.md, 3).
 use Prim.Native.Nat.{ℕ}
 use mathlib.Core.Bool.{Bool, true, _&&_}
 use mathlib.Core.List.{List, [], _∷_}

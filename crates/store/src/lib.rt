@@ -1,4 +1,4 @@
-// A table stored as bytes (document 01, "Stored table"): count, then id, l, r, q of each row.
+// A table stored as bytes (RULES.md, 11): count, then id, l, r, q of each row.
 ghost use mathlib.Core.Path.{_≡_};
 ghost use Prim.Native.Nat.{_+_, _≤_};
 ghost use lib.ListN.{length};

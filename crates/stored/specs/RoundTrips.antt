@@ -1,4 +1,4 @@
--- Demand 2's round trips, of the calls: a stored table reads back as the same table, and bytes that read in are written back as those bytes.
+-- Demand 2's round trips, of the calls (RULES.md, 11): a stored table reads back as the same table, and bytes that read in are written back as those bytes.
 -- `reads-back` and `written-back` of proofs/RoundTrips.antt prove them.
 use Prim.Native.Nat.{ℕ, _≤_}
 use mathlib.Core.Path.{_≡_}

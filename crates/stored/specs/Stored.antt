@@ -1,4 +1,4 @@
--- The stored table (document 01, "Stored table"): count, then id, l, r, q of each row.
+-- The stored table (RULES.md, 11): count, then id, l, r, q of each row.
 use Prim.Native.Nat.{ℕ, zero, suc}
 use mathlib.Core.Bool.{cond}
 use mathlib.Core.List.{List, [], _∷_, _++_, flatMap}

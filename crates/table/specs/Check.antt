@@ -1,4 +1,4 @@
--- The check of the columns (document 01, "Where each check is made"): 10, then 11 over all rows, 12 over all pairs, 13 over all pairs.
+-- The check of the columns (RULES.md, 3): 10, then 11 over all rows, 12 over all pairs, 13 over all pairs.
 use Prim.Native.Nat.{ℕ, _+_, _-_}
 use mathlib.Core.Bool.{Bool, false, cond, not, _&&_, _||_}
 use mathlib.Core.List.{List, [], _∷_}

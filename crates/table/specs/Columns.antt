@@ -1,4 +1,4 @@
--- The table (document 01, "The table"): four lent columns id, l, r, q, and a count of the rows in use. Rows past the count have no meaning.
+-- The table (RULES.md, 3): four lent columns id, l, r, q, and a count of the rows in use. Rows past the count have no meaning.
 use Prim.Native.Nat.{ℕ, zero, suc}
 use mathlib.Core.List.{List, [], _∷_, _++_, map}
 use lib.Dec.{eqb}
@@ -13,7 +13,7 @@ pub record Row : Type 0 where
   pub r : ℕ
   pub q : ℕ
 
--- a group's box (document 01): where its l range and its r range begin, and its size
+-- a group's box (RULES.md, 3): where its l range and its r range begin, and its size
 abbrev pub lowL : Row → ℕ
 lowL w = w .l
 

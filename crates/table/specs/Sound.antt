@@ -1,4 +1,4 @@
--- A sound table, as document 01 says it of groups and ranges.
+-- A sound table (RULES.md, 3), said of groups and ranges.
 use Prim.Native.Nat.{ℕ, _+_, _-_, _≤_, _<_}
 use mathlib.Core.Path.{_≡_}
 use lib.ListN.{length}

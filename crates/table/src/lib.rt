@@ -1,4 +1,4 @@
-// The table (document 01): four lent columns of 32-bit numbers id, l, r, q, and a count of the rows in use.
+// The table (RULES.md, 3): four lent columns of 32-bit numbers id, l, r, q, and a count of the rows in use.
 mod checking;
 mod finding;
 

@@ -1,4 +1,4 @@
--- What the code asks of a count before it is encoded: it is a number of document 01, so that it does not run into the kind.
+-- What the code asks of a count before it is encoded: it is at most the greatest number (RULES.md, 1), so that it does not run into the kind.
 use Prim.Native.Nat.{ℕ, _≤_}
 use Rattle.rules.specs.Answers.{Answer, answer, refused}
 use Rattle.rules.specs.Limits.{greatest}
