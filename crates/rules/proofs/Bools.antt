@@ -13,7 +13,3 @@ and-both false b e = absurd (true≢false (sym e))
 pub not-none : (a : Bool) → not a ≡ false → a ≡ true
 not-none true e = refl
 not-none false e = absurd (true≢false e)
-
-pub or-right : (a b : Bool) → b ≡ true → (a || b) ≡ true
-or-right true b e = refl
-or-right false b e = e
