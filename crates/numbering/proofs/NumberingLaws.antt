@@ -5,7 +5,7 @@ use mathlib.Core.List.{List, [], _∷_, _++_, append-assoc, append-nil}
 use Prim.Native.Nat.{ℕ, zero, suc, _+_, _-_, _≤_, _<_}
 use native.Mathlib.Omega.{arith}
 use native.Mathlib.Numerals.{add-one}
-use lib.ListN.{length, getD, take, drop, set, length-set, length-drop, length-append}
+use lib.ListN.{length, getD, take, drop, set, length-set, length-drop, length-append, take-append-drop}
 use lib.Seq.{take-all, take-suc-set, take-append-seam, take-append-add, length-take-le, append-snoc}
 use borrow.Author.Tests.{lt-ltb, le-ltb}
 use Rattle.boxes.specs.Boxes.{boxOf, written, nextChild, cornerOf, innerOf, cornerCut}
@@ -91,6 +91,15 @@ size-zero : (t : Forest) → size t ≡ 0 → t ≡ none
 size-zero none e = refl
 size-zero (tree i c f) e = absurd (omega arith)
 
+-- no trees, no numbers
+lefts-none : (up : Bool) (b : ℕ) → lefts (directionBy up) b none ≡ []
+lefts-none true b = refl
+lefts-none false b = refl
+
+rights-none : (up : Bool) (b : ℕ) → rights (directionBy up) b none ≡ []
+rights-none true b = refl
+rights-none false b = refl
+
 -- from entry p on, the trees that are left are to be numbered in a box (bl, br, b); ls and rs are what the whole is to be
 pub record Numbers (w : Work) (up : Bool) (from to : ℕ) (ls rs : List ℕ) (p bl br b : ℕ) (l r : List ℕ) : Type 0 where
   pub trees : Forest
@@ -164,19 +173,12 @@ module _ {w : Work} {up : Bool} {from to : ℕ} {ls rs : List ℕ} {p bl br b : 
   pub done : Numbers w up from to ls rs p bl br b l r → to ≤ p → (l ≡ ls) × (r ≡ rs)
   done n h =
       let z = size-zero (n .trees) (let e = n .ends-at in omega arith) in
-      let k : p - from ≡ to - from = let e = n .ends-at in omega arith in (
-        sym (append-nil l) ∙ sym (ap₂ (λ x y. x ++ lefts (directionBy up) bl y) (ap (λ m. take m l) k ∙ take-all (to - from) l (let e = n .l-length in omega arith)) z ∙ lefts-none up l) ∙ n .l-whole,
-        sym (append-nil r) ∙ sym (ap₂ (λ x y. x ++ rights (directionBy up) br y) (ap (λ m. take m r) k ∙ take-all (to - from) r (let e = n .r-length in omega arith)) z ∙ rights-none up r)
-            ∙ n .r-whole,
+      let k : p - from ≡ to - from = let e = n .ends-at in omega arith in
+      let all-l = ap (λ m. take m l) k ∙ take-all (to - from) l (let e = n .l-length in omega arith) in
+      let all-r = ap (λ m. take m r) k ∙ take-all (to - from) r (let e = n .r-length in omega arith) in (
+        sym (append-nil l) ∙ sym (ap₂ (λ x y. x ++ lefts (directionBy up) bl y) all-l z ∙ ap (λ x. l ++ x) (lefts-none up bl)) ∙ n .l-whole,
+        sym (append-nil r) ∙ sym (ap₂ (λ x y. x ++ rights (directionBy up) br y) all-r z ∙ ap (λ x. r ++ x) (rights-none up br)) ∙ n .r-whole,
       )
-    where
-      lefts-none : (v : Bool) (s : List ℕ) → s ++ lefts (directionBy v) bl none ≡ s ++ []
-      lefts-none true s = refl
-      lefts-none false s = refl
-
-      rights-none : (v : Bool) (s : List ℕ) → s ++ rights (directionBy v) br none ≡ s ++ []
-      rights-none true s = refl
-      rights-none false s = refl
 
 pub begins : {w : Work} {up : Bool} {from to bl br b : ℕ} {l r : List ℕ} {t : Forest} → Boxed w from to bl br b l r t
     → Numbers w up from to (lefts (directionBy up) bl t) (rights (directionBy up) br t) from bl br b l r
@@ -221,6 +223,18 @@ filled-length s ys i k e x ke es n =
       length-drop k (set s i x),
     )
     (omega arith)
+
+-- nothing is filled after the place that is written
+unfilled : (s : List ℕ) (k e : ℕ) → e ≡ k → take k s ++ ([] ++ drop (e - k) (drop k s)) ≡ s
+unfilled s k e h = let z : e - k ≡ 0 = omega arith in ap (λ n. take k s ++ drop n (drop k s)) z ∙ take-append-drop k s
+
+-- a parent that has the whole box stands where the box begins
+corner-whole : (up : Bool) (box : Box) (own : ℕ) → own ≡ box .quota → cornerOf up box own ≡ box
+corner-whole true box own e = ap (λ n. boxOf (box .l .0) (box .r .0) n) e
+corner-whole false box own e =
+    let l : box .l .0 + (box .quota - own) ≡ box .l .0 = omega arith in
+    let r : box .r .0 + (box .quota - own) ≡ box .r .0 = omega arith in
+    ap₂ (λ m n. boxOf m n own) l r ∙ ap (λ n. boxOf (box .l .0) (box .r .0) n) e
 
 -- the part of a work column that is lent to the children of entry p
 pub part-length : (s : List ℕ) (p from end : ℕ) → from ≤ p → p < end → end - from ≤ length s
@@ -314,6 +328,20 @@ module _ {w : Work} {up : Bool} {from to : ℕ} {ls rs : List ℕ} {p bl br b : 
       let f = corner-fits child ec in
       rw (el, er′, en, er, ep, writes l i _ (f .0), writes r i _ (f .1))
       (step i k e ys zs child ei ek (ee ∙ ap (λ n. n - from) en) ec ey (ap length ey ∙ lefts-length up _ (h .children)) ez (ap length ez ∙ rights-length up _ (h .children)))
+
+  -- the first tree is an entry alone: where its box begins is written
+  pub moves-alone : (i e end : ℕ) (l′ r′ : List ℕ) (child rest : Box) → i ≡ p - from → e ≡ end - from → end ≡ p + 1 + size (h .children) → e ≡ i + 1
+      → child ≡ childOf bl br b (getD (w .quotas) p 0 + whole (h .children))
+      → rest ≡ boxOf (bl + (getD (w .quotas) p 0 + whole (h .children))) br (b - (getD (w .quotas) p 0 + whole (h .children)))
+      → l′ ≡ written l i (child .l .0) → r′ ≡ written r i (child .r .0)
+      → Numbers w up from to ls rs end (rest .l .0) (rest .r .0) (rest .quota) l′ r′
+  moves-alone i e end l′ r′ child rest ei ee en alone ec er el er′ =
+      let z : h .children ≡ none = size-zero (h .children) (let bh = h .behind in omega arith) in
+      let own : getD (w .quotas) p 0 ≡ child .quota = rw (ec, z) (omega arith) in
+      let m =
+      moves i (i + 1) e end l′ r′ [] [] child rest child ei refl ee en ec er (sym (corner-whole up child _ own)) el er′
+      (sym (ap (lefts (directionBy up) _) z ∙ lefts-none up _)) (sym (ap (rights (directionBy up) _) z ∙ rights-none up _)) in
+      rw (sym (unfilled l′ (i + 1) e alone), sym (unfilled r′ (i + 1) e alone)) m
 
   -- the children's entries, boxed as the code has them
   boxed-at : (end : ℕ) (child x : Box) (ls′ rs′ : List ℕ) → end ≡ p + 1 + size (h .children) → child ≡ childOf bl br b (getD (w .quotas) p 0 + whole (h .children))

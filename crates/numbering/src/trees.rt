@@ -10,7 +10,7 @@ use boxes::Box;
 use boxes::Cut;
 
 // Numbers the trees of the entries from `from` up to `to` in a box of their quota; `l` and `r` are their parts of the work columns.
-// A child's own parts are lent to the call that fills them by the same rule.
+// A child's own parts are lent to the call that fills them by the same rule; an entry without children has its whole box.
 pub(crate) fn number_trees(
     quotas: &[u32],
     ends: &[usize],
@@ -31,36 +31,42 @@ pub(crate) fn number_trees(
     let mut rest = area;
     while p < to {
         let end = ends[p];
-        let own = quotas[p] as u64;
         match rest.next_child(sums[p]) {
             Cut::None => {
                 return;
             }
-            Cut::Parts(child, left) => match child.corner(upright, own) {
-                Cut::None => {
-                    return;
+            Cut::Parts(child, left) => {
+                let i = p - from;
+                let k = i + 1;
+                let e = end - from;
+                if e == k {
+                    child.l.write(l, i);
+                    child.r.write(r, i);
+                } else {
+                    match child.corner(upright, quotas[p] as u64) {
+                        Cut::None => {
+                            return;
+                        }
+                        Cut::Parts(place, inner) => {
+                            place.l.write(l, i);
+                            place.r.write(r, i);
+                            number_trees(
+                                quotas,
+                                ends,
+                                sums,
+                                p + 1,
+                                end,
+                                upright,
+                                inner,
+                                &mut l[k..e],
+                                &mut r[k..e],
+                            );
+                        }
+                    }
                 }
-                Cut::Parts(place, inner) => {
-                    let i = p - from;
-                    let e = end - from;
-                    let k = i + 1;
-                    place.l.write(l, i);
-                    place.r.write(r, i);
-                    number_trees(
-                        quotas,
-                        ends,
-                        sums,
-                        p + 1,
-                        end,
-                        upright,
-                        inner,
-                        &mut l[k..e],
-                        &mut r[k..e],
-                    );
-                    rest = left;
-                    p = end;
-                }
-            },
+                rest = left;
+                p = end;
+            }
         }
     }
 }

@@ -95,6 +95,18 @@ inner-found bytes room children after next v u p end inner b l e w =
       small = omega (arith, f .2, whole-bound (f .0) (read-trees (room - 1) children bytes after (next + 1) (f .1) .legal b));
     }
 
+-- an entry without children has none
+inner-none : (bytes : List ℕ) (room children after next : ℕ) (v : Work) → next < mostEntries → children ≡ 0 → Inner bytes room children after next v v after (next + 1) 0
+inner-none bytes room children after next v l z = record {
+  trees = none;
+  read = trees-none bytes (room - 1) children after (next + 1) (omega arith);
+  written = refl;
+  summed = refl;
+  counted = omega arith;
+  most = omega arith;
+  small = omega arith;
+}
+
 end-from-none : (a : Answer TreesRead) → walkEnd a ≡ endAfter 0 a
 end-from-none (answer t) = ap (λ (n : ℕ). answer (record { next = t .next; used = t .used; quota = n })) (omega arith)
 end-from-none (refused n) = refl
@@ -155,3 +167,13 @@ again {bytes} {at} {trees} {room} {used} {w} {ids} {quotas} {ends} {sums} {place
       most = i .most;
       small = omega (arith, i .small, r .small, i .counted);
     }
+
+-- an entry without children
+pub again-alone : {bytes : List ℕ} {at trees room used : ℕ} {w : Work} {ids quotas ends sums : List ℕ} {place next sum left id quota children after : ℕ}
+    → Reading bytes at trees room used w (work ids quotas ends sums) place next sum left → 0 < left → next < mostEntries → (room ≡ 0 → ⊥)
+    → answer (record { id = id; quota = quota; children = children; next = after }) ≡ entryAt bytes place → quota ≤ greatest → children ≡ 0
+    → Reading bytes at trees room used w (work (set ids next id) (set quotas next quota) (set ends next (next + 1)) (set sums next quota)) after (next + 1) (sum + quota) (left - 1)
+again-alone {bytes} {at} {trees} {room} {used} {w} {ids} {quotas} {ends} {sums} {place} {next} {sum} {left} {id} {quota} {children} {after} r some l deep e fits z =
+    let own : quota + 0 ≡ quota = omega arith in
+    subst (λ s. Reading bytes at trees room used w (work (set ids next id) (set quotas next quota) (set ends next (next + 1)) (set sums next s)) after (next + 1) (sum + s) (left - 1)) own
+    (again r some l deep e fits (inner-none bytes room children after next _ l z))

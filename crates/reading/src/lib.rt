@@ -77,7 +77,7 @@ fn entry_at(bytes: &[u8], at: usize) -> EntryDrawn
 }
 
 // The trees from a position on: a walk over child counts, with the remaining depth `room` falling. Each entry takes the next place of
-// the work columns.
+// the work columns; one without children needs no walk below.
 fn read_trees(
     bytes: &[u8],
     at: usize,
@@ -109,30 +109,40 @@ fn read_trees(
                 return Walk::Refused(why);
             }
             EntryDrawn::Entry(id, quota, children, after) => {
+                let own = quota as u64;
                 ids[next] = id;
                 quotas[next] = quota;
-                match read_trees(
-                    bytes,
-                    after,
-                    children,
-                    room - 1,
-                    next + 1,
-                    &mut *ids,
-                    &mut *quotas,
-                    &mut *ends,
-                    &mut *sums,
-                ) {
-                    Walk::Refused(why) => {
-                        return Walk::Refused(why);
-                    }
-                    Walk::End(p, end, inner) => {
-                        let own = quota as u64 + inner;
-                        ends[next] = end;
-                        sums[next] = own;
-                        place = p;
-                        next = end;
-                        sum = sum + own;
-                        left = left - 1;
+                if children == 0 {
+                    ends[next] = next + 1;
+                    sums[next] = own;
+                    place = after;
+                    next = next + 1;
+                    sum = sum + own;
+                    left = left - 1;
+                } else {
+                    match read_trees(
+                        bytes,
+                        after,
+                        children,
+                        room - 1,
+                        next + 1,
+                        &mut *ids,
+                        &mut *quotas,
+                        &mut *ends,
+                        &mut *sums,
+                    ) {
+                        Walk::Refused(why) => {
+                            return Walk::Refused(why);
+                        }
+                        Walk::End(p, end, inner) => {
+                            let whole = own + inner;
+                            ends[next] = end;
+                            sums[next] = whole;
+                            place = p;
+                            next = end;
+                            sum = sum + whole;
+                            left = left - 1;
+                        }
                     }
                 }
             }

@@ -10,7 +10,7 @@ use borrow.Fn.Kinds.{In}
 use borrow.Fn.PlainCycle.{Measures, is, falls, and}
 use Rattle.reading.specs.inside.Says.{entrySays, walkSays}
 use Rattle.reading.specs.Work.{work}
-use Rattle.reading.proofs.Walking.{Reading, Inner, begin, refuse, ended, again, sum-bound, inner-found, walk-refused}
+use Rattle.reading.proofs.Walking.{Reading, Inner, begin, refuse, ended, again, again-alone, sum-bound, inner-found, walk-refused}
 use Rattle.request.proofs.TreeSteps.{tree-full, tree-deep, tree-cut, below-refused}
 use Rattle.reading.proofs.read_trees.Reads as read-trees
 use Rattle.reading.proofs.read_trees.Kinds as read-trees-kinds
@@ -50,7 +50,7 @@ abbrev AtBelow : ℕ → Type 0
 AtBelow t = lts.After-known-told4 (claims t) (at-measure t) read-trees.Post Inv-loop μ-loop
 
 abbrev entry-of : {t : ℕ} → AtBelow t → AtEntry t
-entry-of c = c .before .before .before .before .before .before .before .before
+entry-of c = c .before .before .before .before .before .before .before .before .before
 
 abbrev loop-of : {t : ℕ} → AtEntry t → AtLoop t
 loop-of c = c .before .before .before .before .before .before .before
@@ -82,19 +82,28 @@ pub +read-trees-spec : {M : Type 1} → statement M
     let e = c .before .before .before in
     refuse (e .before .before .before .before .loop .inv) _ (e .before .before .before .loop-test .taken)
     (tree-cut _ _ _ _ (e .before .before .if1 .left) (e .before .if2 .left) (sym (e .entry-at .ensures) ∙ ap entrySays (c .before .why .given .1))))
-    (λ c. search needs) (λ c. search needs) (λ c. search needs) (λ c. search needs) (λ c. search needs) (λ c. search needs) (λ c. search needs)
+    (λ c. search needs) (λ c. search needs) (λ c. search needs) (λ c. search needs) (λ c. search needs) (λ c. search needs)
+    (λ c. search needs) (λ c. search needs) (λ c. search needs) (λ c. search needs) (λ c. search needs) (λ c. search needs)
+    (λ c. let e : AtEntry t = c .before in omega (arith, e .known-told2 .given, sum-bound (loop-of e .loop .inv)))
+    (λ c. search needs) (λ c. search needs)
+    (λ c.
+    let e : AtEntry t = c .before in
+    let g = e .before .before .before in
+    again-alone (loop-of e .loop .inv) (g .before .before .before .loop-test .taken) (g .before .before .if1 .left) (g .before .if2 .left)
+    (sym (ap entrySays (e .before .id .given .1)) ∙ g .entry-at .ensures) (omega (arith, e .known-told2 .given)) (omega (arith, c .if3 .taken)))
+    (λ c. search needs) (λ c. search needs)
     (λ c κs.
-    let e = c .before .before .before .before in
+    let e : AtEntry t = c .before .before .before .before .before in
     (omega (arith, e .before .before .before .before .if2 .left, loop-of e .before .before .pre .0), omega (arith, e .before .before .before .before .before .if1 .left)))
     (λ c. search needs)
     (λ c.
     let r = c .before .before .before .read-trees in
-    let e : AtEntry t = c .before .before .before .before .before .before .before .before in
+    let e : AtEntry t = c .before .before .before .before .before .before .before .before .before in
     let g = e .before .before .before in
     refuse (loop-of e .loop .inv) _ (g .before .before .before .loop-test .taken)
     (below-refused _ _ _ _ (g .before .before .if1 .left) (g .before .if2 .left) (sym (g .entry-at .ensures) ∙ ap entrySays (e .before .id .given .1))
     (walk-refused _ (sym (ap walkSays (c .before .why2 .given .1)) ∙ r .ensures .0))))
-    (λ c. search needs) (λ c. search needs)
+    (λ c. search needs)
     (λ c. let i = below t c in omega (arith, i .small, i .counted, i .most, entry-of c .known-told2 .given))
     (λ c. search needs) (λ c. search needs) (λ c. search needs) (λ c. search needs)
     (λ c. let i = below t c in omega (arith, i .small, i .counted, i .most, entry-of c .known-told2 .given, sum-bound (loop-of (entry-of c) .loop .inv)))

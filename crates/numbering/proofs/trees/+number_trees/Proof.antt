@@ -19,7 +19,8 @@ use Rattle.request.specs.Numbering.{lefts, rights, whole}
 use Rattle.reading.specs.Work.{work}
 use Rattle.reading.specs.inside.Work.{directionBy}
 use Rattle.numbering.specs.inside.Boxed.{forestIn}
-use Rattle.numbering.proofs.NumberingLaws.{Numbers, Here, childOf, begins, here, done, never, child-is, left-is, corner-there, place-is, inner-is, part-length, boxed-in, moves, children-back}
+use Rattle.numbering.proofs.NumberingLaws.{Numbers, Here, childOf, begins, here, done, never, child-is, left-is, corner-there, place-is, inner-is}
+use Rattle.numbering.proofs.NumberingLaws.{part-length, boxed-in, moves, moves-alone, children-back}
 use Rattle.numbering.proofs.trees.number_trees.Reads as number-trees
 use Rattle.numbering.proofs.trees.number_trees.Kinds as kinds
 use Rattle.numbering.proofs.trees.+number_trees.Lts-number_trees as lts
@@ -40,12 +41,12 @@ abbrev claims : ℕ → lts.Claims
 claims t = (
   next-child-reads.Asked,
   next-child-reads.Learnt,
-  corner-reads.Asked,
-  corner-reads.Learnt,
   write-l-reads.Asked,
   write-l-reads.Learnt,
   write-r-reads.Asked,
   write-r-reads.Learnt,
+  corner-reads.Asked,
+  corner-reads.Learnt,
   below t,
   number-trees.Post,
 )
@@ -72,7 +73,7 @@ abbrev Corner : ℕ → Type 0
 Corner t = lts.After-known-told2 (claims t) (here-at t) number-trees.Post Inv-loop μ-loop
 
 abbrev Written : ℕ → Type 0
-Written t = lts.After-write2 (claims t) (here-at t) number-trees.Post Inv-loop μ-loop
+Written t = lts.After-write4 (claims t) (here-at t) number-trees.Post Inv-loop μ-loop
 
 abbrev Filled : ℕ → Type 0
 Filled t = lts.After-number-trees (claims t) (here-at t) number-trees.Post Inv-loop μ-loop
@@ -92,26 +93,30 @@ first t c = here (c .before .loop .inv) (c .loop-test .taken)
 
 -- its box is there to be cut off
 dead : (t : ℕ) (c : lts.After-enum-told (claims t) (here-at t) number-trees.Post Inv-loop μ-loop) → ⊥
-dead t c = let h = first t (c .before .before .before .before .before .before) in never h (c .before .before .next-child .ensures) (h .sum-is) (c .enum-told .given .1)
+dead t c = let h = first t (c .before .before .before .before .before) in never h (c .before .before .next-child .ensures) (h .sum-is) (c .enum-told .given .1)
 
 abbrev round : {t : ℕ} → Child t → Loop t
-round c = c .before .before .before .before .before .before .before
+round c = c .before .before .before .before .before .before
 
 child-at : (t : ℕ) (c : Child t)
     → let s = round c .before .loop in
     c .before .child .given .0 .0 ≡ childOf (s .rest .l .0) (s .rest .r .0) (s .rest .quota) (getD (now (start (round c) .args .quotas)) (s .p) 0 + whole (first t (round c) .children))
 child-at t c = let h = first t (round c) in child-is h (c .before .before .before .next-child .ensures) (h .sum-is) (c .before .child .given .1)
 
+-- it is an entry alone
+abbrev alone : {t : ℕ} → lts.After-slice-known4 (claims t) (here-at t) number-trees.Post Inv-loop μ-loop → Child t
+alone c = c .before .before .before .before .before .before .before .before .before
+
 -- its root's place, and the box that its children share
 abbrev child : {t : ℕ} → Corner t → Child t
-child c = c .before .before .before .before
+child c = c .before .before .before .before .before .before
 
 abbrev own : {t : ℕ} → Corner t → ℕ
 own c = getD (now (start (round (child c)) .args .quotas)) (round (child c) .before .loop .p) 0
 
 dead-corner : (t : ℕ) (c : lts.After-enum-told2 (claims t) (here-at t) number-trees.Post Inv-loop μ-loop) → ⊥
 dead-corner t c =
-    let k : Child t = c .before .before .before in
+    let k : Child t = c .before .before .before .before .before in
     corner-there (first t (round k)) _ (child-at t k) (c .before .before .corner .ensures) (c .enum-told2 .given .1)
 
 place-at : (t : ℕ) (c : Corner t) → c .before .place .given .0 .0 ≡ cornerOf (start (round (child c)) .args .upright) (child c .before .child .given .0 .0) (own c)
@@ -121,17 +126,17 @@ inner-at : (t : ℕ) (c : Corner t) → c .before .place .given .0 .1 .0 ≡ inn
 inner-at t c = inner-is (first t (round (child c))) _ (child-at t (child c)) (c .before .before .before .corner .ensures) (c .before .place .given .1)
 
 -- the columns with its root's place written
-abbrev wrote : {t : ℕ} → Written t → lts.After-write (claims t) (here-at t) number-trees.Post Inv-loop μ-loop
+abbrev wrote : {t : ℕ} → Written t → lts.After-write3 (claims t) (here-at t) number-trees.Post Inv-loop μ-loop
 wrote c = c .before .before .before .before
 
 abbrev corner : {t : ℕ} → Written t → Corner t
 corner c = wrote c .before .before
 
 abbrev l-written : {t : ℕ} → Written t → List ℕ
-l-written c = wrote c .write .last .1 .0
+l-written c = wrote c .write3 .last .1 .0
 
 abbrev r-written : {t : ℕ} → Written t → List ℕ
-r-written c = c .write2 .last .1 .0
+r-written c = c .write4 .last .1 .0
 
 -- where the tree stands among the entries
 bounds : (t : ℕ) (c : Child t)
@@ -145,7 +150,7 @@ abbrev tree : {t : ℕ} → Written t → Child t
 tree c = child (corner c)
 
 lengths : (t : ℕ) (c : Written t) → let a = start (round (tree c)) .args in (length (l-written c) ≡ a .to - a .from) × (length (r-written c) ≡ a .to - a .from)
-lengths t c = let h = first t (round (tree c)) in (wrote c .write .kept .1 .0 ∙ h .l-length, c .write2 .kept .1 .0 ∙ h .r-length)
+lengths t c = let h = first t (round (tree c)) in (wrote c .write3 .kept .1 .0 ∙ h .l-length, c .write4 .kept .1 .0 ∙ h .r-length)
 
 pub +number-trees-spec : {M : Type 1} → statement M
 +number-trees-spec =
@@ -156,25 +161,27 @@ pub +number-trees-spec : {M : Type 1} → statement M
     (λ c. omega arith)
     (λ c. omega arith)
     (λ c. omega arith)
-    (λ c. omega arith)
     (λ c. omega (arith, c .shared-slice-known5 .given (c .before .before .before .loop .p)))
-    (λ c. omega arith)
-    (λ c. omega arith)
     (λ c κs. tt)
     (λ c. search needs)
     (λ c. absurd (dead t c))
     (λ c. absurd (dead t c))
     (λ c. absurd (dead t c))
     (λ c. search needs)
+    (λ c. omega (arith, bounds t c))
+    (λ c. omega (arith, bounds t c, start (round c) .fits))
+    (λ c. omega (arith, bounds t c))
+    (λ c κs. tt)
+    (λ c κs. tt)
+    (λ c. omega arith)
+    (λ c. omega arith)
+    (λ c. omega (arith, c .shared-slice-known6 .given (round (c .before .before) .before .loop .p)))
     (λ c κs. tt)
     (λ c. search needs)
     (λ c. absurd (dead-corner t c))
     (λ c. absurd (dead-corner t c))
     (λ c. absurd (dead-corner t c))
     (λ c. search needs)
-    (λ c. omega (arith, bounds t (child c)))
-    (λ c. omega (arith, bounds t (child c)))
-    (λ c. omega (arith, bounds t (child c), start (round (child c)) .fits))
     (λ c κs. tt)
     (λ c κs. tt)
     (λ c. omega (arith, bounds t (tree (c .before .before)), start (round (tree (c .before .before))) .fits))
@@ -200,6 +207,13 @@ pub +number-trees-spec : {M : Type 1} → statement M
             (part-length _ _ (s .args .from) _ (b .0) (b .1 .0) (omega (arith, b, n))),
       ),
     ))
+    (λ c. omega (arith, bounds t (alone c)))
+    (λ c.
+    let k : Child t = alone c in
+    let h = first t (round k) in
+    moves-alone h _ _ _ _ _ _ _ refl refl (h .end-is) (omega (arith, c .before .before .before .before .before .before .before .before .if1 .taken)) (child-at t k)
+    (left-is h (k .before .before .before .next-child .ensures) (h .sum-is) (k .before .child .given .1))
+    (c .before .before .before .before .before .before .write .ensures) (c .before .before .write2 .ensures))
     (λ c. omega (arith, bounds t (tree (c .before .before .before .before .before .before .before .before .before))))
     (λ c.
     let y : Filled t = c .before .before .before .before in
@@ -211,7 +225,7 @@ pub +number-trees-spec : {M : Type 1} → statement M
     let up = directionBy (s .args .upright) in
     let back = children-back h _ (h .end-is) in
     moves h _ _ _ _ _ _ _ _ _ _ _ refl refl refl (h .end-is) (child-at t k) (left-is h (k .before .before .before .next-child .ensures) (h .sum-is) (k .before .child .given .1)) (place-at t p)
-    (wrote w .write .ensures) (w .write2 .ensures)
+    (wrote w .write3 .ensures) (w .write4 .ensures)
     (y .number-trees .ensures .0 ∙ ap₂ (λ (z : Box) f. lefts up (z .l .0) f) (inner-at t p) back)
     (y .number-trees .ensures .1 ∙ ap₂ (λ (z : Box) f. rights up (z .r .0) f) (inner-at t p) back))
     (λ c. let n = c .before .loop .inv in let b = c .before .before .before .before .before .before .before .pre .1 .1 in omega (arith, n .l-length, b .l-part, b .ends-at))
