@@ -12,7 +12,7 @@ use Rattle.rules.specs.Limits.{greatest}
 use Rattle.rules.proofs.Bools.{or-none}
 use Rattle.rules.proofs.Cases.{by-lt}
 use Rattle.rules.proofs.Ranges.{Clear, le-same}
-use Rattle.boxes.specs.Boxes.{written, within, apart, boxOf, past, nextChild, cornerOf, innerOf, cornerCut}
+use Rattle.boxes.specs.Boxes.{columnWith, within, apart, boxOf, past, nextChild, cornerOf, innerOf, cornerCut}
 use Rattle.boxes.specs.declared.Box.{Box}
 use Rattle.boxes.specs.declared.Cut.the-variants.{Parts, None}
 
@@ -63,8 +63,8 @@ module _ (a q b p : ℕ) where
   within-before h = rw (lt-leb _ _ h)
 
 -- a coordinate that has 32 bits is written
-pub writes : (column : List ℕ) (i n : ℕ) → n ≤ greatest → written column i n ≡ set column i n
-unfolding written
+pub writes : (column : List ℕ) (i n : ℕ) → n ≤ greatest → columnWith column i n ≡ set column i n
+unfolding columnWith
 writes column i n h = rw (le-leb _ _ h)
 
 module _ (b : Box) (q : ℕ) where

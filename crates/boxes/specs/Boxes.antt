@@ -12,19 +12,19 @@ use Rattle.boxes.specs.declared.left.LValue.{LValue}
 use Rattle.boxes.specs.declared.right.RValue.{RValue}
 
 -- the coordinates of a number
-abbrev pub lOf : ℕ → LValue
-lOf n = record { 0 = n }
+abbrev pub lValue : ℕ → LValue
+lValue n = record { 0 = n }
 
-abbrev pub rOf : ℕ → RValue
-rOf n = record { 0 = n }
+abbrev pub rValue : ℕ → RValue
+rValue n = record { 0 = n }
 
 -- one coordinate is at most another of its kind
 abbrev pub atMost : ℕ → ℕ → Bool
 atMost a b = leb a b
 
 -- a column with a coordinate written to place i; it stays as it is where the coordinate passes the greatest number. Past its end there is no place
-unfoldable pub written : List ℕ → ℕ → ℕ → List ℕ
-written column i n = cond (leb n greatest) (set column i n) column
+unfoldable pub columnWith : List ℕ → ℕ → ℕ → List ℕ
+columnWith column i n = cond (leb n greatest) (set column i n) column
 
 -- a coordinate past 64 bits
 abbrev pub past : ℕ → Bool
@@ -39,7 +39,7 @@ unfoldable pub apart : ℕ → ℕ → ℕ → ℕ → Bool
 apart a q b p = cond (leb a b) (leb (a + q) b) (leb (b + p) a)
 
 abbrev pub boxOf : ℕ → ℕ → ℕ → Box
-boxOf l r q = record { l = lOf l; r = rOf r; quota = q }
+boxOf l r q = record { l = lValue l; r = rValue r; quota = q }
 
 -- y lies in x
 unfoldable pub contains : Box → Box → Bool

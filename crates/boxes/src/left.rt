@@ -2,7 +2,7 @@
 ghost use mathlib.Core.Path.{_≡_};
 ghost use Prim.Native.Nat.{_+_, _≤_};
 ghost use Rattle.rules.specs.Lent.{old, new};
-ghost use Rattle.boxes.specs.Boxes.{lOf, within, apart, atMost, written, past};
+ghost use Rattle.boxes.specs.Boxes.{lValue, within, apart, atMost, columnWith, past};
 use crate::plain::apart;
 use crate::plain::passes;
 use crate::plain::within;
@@ -14,7 +14,7 @@ pub struct LValue(u64);
 impl LValue {
     // The l-value of a number.
     pub fn new(n: u64) -> LValue
-        ensures { λ x. ⌜ x ≡ lOf n ⌝ }
+        ensures { λ x. ⌜ x ≡ lValue n ⌝ }
     {
         LValue(n)
     }
@@ -27,7 +27,7 @@ impl LValue {
 
     // Writes it to a place of a column.
     pub fn write(self, column: &mut [u32], i: usize)
-        ensures { λ _. ⌜ new column ≡ written (old column) i (self .0) ⌝ }
+        ensures { λ _. ⌜ new column ≡ columnWith (old column) i (self .0) ⌝ }
     {
         write(column, i, self.0);
     }
@@ -56,7 +56,7 @@ impl LValue {
     // The l-value n numbers on.
     pub(crate) fn plus(self, n: u64) -> LValue
         requires { ⌜ self .0 + n ≤ 18446744073709551615 ⌝ }
-        ensures { λ x. ⌜ x ≡ lOf (self .0 + n) ⌝ }
+        ensures { λ x. ⌜ x ≡ lValue (self .0 + n) ⌝ }
     {
         LValue(self.0 + n)
     }

@@ -2,7 +2,7 @@
 ghost use mathlib.Core.Path.{_≡_};
 ghost use Prim.Native.Nat.{_+_};
 ghost use Rattle.rules.specs.Lent.{old, new};
-ghost use Rattle.boxes.specs.Boxes.{within, apart, written, past};
+ghost use Rattle.boxes.specs.Boxes.{within, apart, columnWith, past};
 use rules::GREATEST;
 
 // The second of two ranges lies in the first.
@@ -37,7 +37,7 @@ pub(crate) fn passes(a: u64, n: u64) -> bool
 
 // Writes n to place i of a column, where n has 32 bits and the column has the place.
 pub(crate) fn write(column: &mut [u32], i: usize, n: u64)
-    ensures { λ _. ⌜ new column ≡ written (old column) i n ⌝ }
+    ensures { λ _. ⌜ new column ≡ columnWith (old column) i n ⌝ }
 {
     if n <= GREATEST as u64 {
         if i < column.len() {

@@ -8,7 +8,7 @@ use native.Mathlib.Numerals.{add-one}
 use lib.ListN.{length, getD, take, drop, set, length-set, length-drop, length-append, take-append-drop}
 use lib.Seq.{take-all, take-suc-set, take-append-seam, take-append-add, length-take-le, append-snoc}
 use borrow.Author.Tests.{lt-ltb, le-ltb}
-use Rattle.boxes.specs.Boxes.{boxOf, written, nextChild, cornerOf, innerOf, cornerCut}
+use Rattle.boxes.specs.Boxes.{boxOf, columnWith, nextChild, cornerOf, innerOf, cornerCut}
 use Rattle.boxes.specs.declared.Box.{Box}
 use Rattle.boxes.specs.declared.Cut.{Cut}
 use Rattle.boxes.specs.declared.Cut.the-variants.{Parts, None}
@@ -320,7 +320,7 @@ module _ {w : Work} {up : Bool} {from to : ℕ} {ls rs : List ℕ} {p bl br b : 
   pub moves : (i k e end : ℕ) (l′ r′ ys zs : List ℕ) (child rest place : Box) → i ≡ p - from → k ≡ i + 1 → e ≡ end - from → end ≡ p + 1 + size (h .children)
       → child ≡ childOf bl br b (getD (w .quotas) p 0 + whole (h .children))
       → rest ≡ boxOf (bl + (getD (w .quotas) p 0 + whole (h .children))) br (b - (getD (w .quotas) p 0 + whole (h .children)))
-      → place ≡ cornerOf up child (getD (w .quotas) p 0) → l′ ≡ written l i (place .l .0) → r′ ≡ written r i (place .r .0)
+      → place ≡ cornerOf up child (getD (w .quotas) p 0) → l′ ≡ columnWith l i (place .l .0) → r′ ≡ columnWith r i (place .r .0)
       → ys ≡ lefts (directionBy up) (innerOf up child (getD (w .quotas) p 0) .l .0) (h .children)
       → zs ≡ rights (directionBy up) (innerOf up child (getD (w .quotas) p 0) .r .0) (h .children)
       → Numbers w up from to ls rs end (rest .l .0) (rest .r .0) (rest .quota) (take k l′ ++ (ys ++ drop (e - k) (drop k l′))) (take k r′ ++ (zs ++ drop (e - k) (drop k r′)))
@@ -333,7 +333,7 @@ module _ {w : Work} {up : Bool} {from to : ℕ} {ls rs : List ℕ} {p bl br b : 
   pub moves-alone : (i e end : ℕ) (l′ r′ : List ℕ) (child rest : Box) → i ≡ p - from → e ≡ end - from → end ≡ p + 1 + size (h .children) → e ≡ i + 1
       → child ≡ childOf bl br b (getD (w .quotas) p 0 + whole (h .children))
       → rest ≡ boxOf (bl + (getD (w .quotas) p 0 + whole (h .children))) br (b - (getD (w .quotas) p 0 + whole (h .children)))
-      → l′ ≡ written l i (child .l .0) → r′ ≡ written r i (child .r .0)
+      → l′ ≡ columnWith l i (child .l .0) → r′ ≡ columnWith r i (child .r .0)
       → Numbers w up from to ls rs end (rest .l .0) (rest .r .0) (rest .quota) l′ r′
   moves-alone i e end l′ r′ child rest ei ee en alone ec er el er′ =
       let z : h .children ≡ none = size-zero (h .children) (let bh = h .behind in omega arith) in

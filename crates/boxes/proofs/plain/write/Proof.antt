@@ -3,12 +3,12 @@ use lib.Seq.{set-out}
 use borrow.Author.Tests.{le-leb, lt-leb}
 use borrow.Author.Needs.{needs}
 use Rattle.rules.specs.Limits.{greatest}
-use Rattle.boxes.specs.Boxes.{written}
+use Rattle.boxes.specs.Boxes.{columnWith}
 use Rattle.boxes.proofs.plain.write.Statement.{statement}
 use Rattle.boxes.proofs.plain.write.Tie as tie
 
 pub write-spec : {M : Type 1} → statement M
-unfolding written
+unfolding columnWith
 write-spec =
     tie.close
     (tie.spec
