@@ -4,7 +4,7 @@ use mathlib.Core.Bool.{Bool}
 use mathlib.Core.List.{List, [], map}
 use Prim.Native.Nat.{ℕ, _+_, _-_}
 use native.Mathlib.Omega.{arith}
-use lib.ListN.{length}
+use lib.ListN.{length, length-set}
 use lib.Seq.{length-sets}
 use Rattle.rules.specs.Buffers.{Bytes}
 use Rattle.rules.specs.Limits.{mostEntries}
@@ -80,8 +80,16 @@ alike-filled w v at (tree e c r) a =
       sums-same = ap (λ s. lib.ListN.set s at (quota e + whole c)) (a .sums-same);
     }))
 
+-- a column keeps its length
+filled-lengths : (w : Work) (at : ℕ) (t : Forest) → (length (filled w at t .ends) ≡ length (w .ends)) × (length (filled w at t .sums) ≡ length (w .sums))
+filled-lengths w at none = (refl, refl)
+filled-lengths w at (tree e c r) =
+    let f = filled-lengths _ (at + 1 + size c) r in
+    let g = filled-lengths _ (at + 1) c in
+    (f .0 ∙ g .0 ∙ length-set (w .ends) at _, f .1 ∙ g .1 ∙ length-set (w .sums) at _)
+
 module _ {bytes : List ℕ} {w v : Work} {x n z : ℕ} {up : Bool} (b : Bytes bytes) (r : Received bytes w v x up n z)
-    (in-quotas : length (v .quotas) ≡ mostEntries) (in-ends : length (v .ends) ≡ mostEntries) (in-sums : length (v .sums) ≡ mostEntries) where
+    (in-quotas : length (v .quotas) ≡ mostEntries) (in-ends : length (w .ends) ≡ mostEntries) (in-sums : length (w .sums) ≡ mostEntries) where
   abbrev t : Forest
   t = r .request .trees
 
@@ -100,8 +108,8 @@ module _ {bytes : List ℕ} {w v : Work} {x n z : ℕ} {up : Bool} (b : Bytes by
       let p : Places mostEntries (filled w′ 0 t) = record {
         in-ids = ap length (filled-ids w′ t) ∙ length-sets (v .quotas) 0 (map (λ (e : Entry). e .id) (preL t)) ∙ in-quotas;
         in-quotas = ap length (same .quotas-same) ∙ in-quotas;
-        in-ends = ap length (same .ends-same) ∙ in-ends;
-        in-sums = ap length (same .sums-same) ∙ in-sums;
+        in-ends = filled-lengths w′ 0 t .0 ∙ in-ends;
+        in-sums = filled-lengths w′ 0 t .1 ∙ in-sums;
       } in
       let f = filled-in w′ 0 t (filled-back w′ 0 t p) (omega (arith, r .entries-are, r .entries-most)) (request-legal bytes b (r .is) .trees) in
       rw (same .quotas-same, same .ends-same, same .sums-same) at (nameless-in (filled w′ 0 t) 0 t f)

@@ -2,6 +2,7 @@
 ghost use mathlib.Core.Path.{_≡_};
 ghost use Prim.Native.Nat.{_≤_};
 ghost use lib.ListN.{length};
+ghost use Rattle.rules.specs.Limits.{mostEntries};
 ghost use Rattle.rules.specs.Lent.{old, new};
 ghost use Rattle.request.specs.Numbering.{lefts, rights};
 ghost use Rattle.request.specs.Reading.{requestOf};
@@ -18,15 +19,15 @@ use rules::GREATEST;
 // Numbers the first `entries` entries in the box of their quota that begins at (0, 0), where that is at most the greatest number.
 fn number_entries(
     quotas: &[u32],
-    ends: &[usize],
-    sums: &[u64],
+    ends: &[usize; ENTRY_CAPACITY],
+    sums: &[u64; ENTRY_CAPACITY],
     entries: usize,
     upright: bool,
     quota: u64,
     l: &mut [u32],
     r: &mut [u32],
 )
-    requires { ⌜ (entries ≤ length (now quotas)) × (entries ≤ length (now ends)) × (entries ≤ length (now sums)) × (entries ≤ length (now l)) × (entries ≤ length (now r)) ⌝ }
+    requires { ⌜ (entries ≤ length (now quotas)) × (entries ≤ mostEntries) × (entries ≤ length (now l)) × (entries ≤ length (now r)) ⌝ }
     requires { ⌜ Held (now quotas) (now ends) (now sums) entries quota ⌝ }
     ensures { λ _. ⌜ Begins l (numbersOf lefts upright (forestIn (old quotas) (old ends) 0 entries)) ⌝ }
     ensures { λ _. ⌜ Begins r (numbersOf rights upright (forestIn (old quotas) (old ends) 0 entries)) ⌝ }
@@ -57,6 +58,7 @@ fn number_read(
     l: &mut [u32; ENTRY_CAPACITY],
     r: &mut [u32; ENTRY_CAPACITY],
 ) -> RequestRead
+    requires { ⌜ (length (now ends) ≡ mostEntries) × (length (now sums) ≡ mostEntries) ⌝ }
     ensures { λ t. ⌜ requestSays t ≡ summary (requestOf (old bytes)) ⌝ }
     ensures { λ t. ⌜ EntriesIn (requestOf (old bytes)) (old ids) (new ids) (old quotas) (new quotas) ⌝ }
     ensures { λ t. ⌜ Begins l (leftNumbers (requestOf (old bytes))) × Begins r (rightNumbers (requestOf (old bytes))) ⌝ }

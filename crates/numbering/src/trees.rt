@@ -2,19 +2,21 @@
 ghost use mathlib.Core.Path.{_≡_};
 ghost use Prim.Native.Nat.{_≤_};
 ghost use lib.ListN.{length};
+ghost use Rattle.rules.specs.Limits.{mostEntries};
 ghost use Rattle.request.specs.Numbering.{lefts, rights};
 ghost use Rattle.reading.specs.inside.Work.{directionBy};
 ghost use Rattle.numbering.specs.inside.Boxed.{BoxedIn, forestIn};
 ghost use Rattle.rules.specs.Lent.{old, new};
 use boxes::Box;
 use boxes::Cut;
+use rules::ENTRY_CAPACITY;
 
 // Numbers the trees of the entries from `from` up to `to` in a box of their quota; `l` and `r` are their parts of the work columns.
 // A child's own parts are lent to the call that fills them by the same rule; an entry without children has its whole box.
 pub(crate) fn number_trees(
     quotas: &[u32],
-    ends: &[usize],
-    sums: &[u64],
+    ends: &[usize; ENTRY_CAPACITY],
+    sums: &[u64; ENTRY_CAPACITY],
     from: usize,
     to: usize,
     upright: bool,
@@ -22,7 +24,7 @@ pub(crate) fn number_trees(
     l: &mut [u32],
     r: &mut [u32],
 )
-    requires { ⌜ (to ≤ length (now quotas)) × ((to ≤ length (now ends)) × (to ≤ length (now sums))) ⌝ }
+    requires { ⌜ (to ≤ length (now quotas)) × (to ≤ mostEntries) ⌝ }
     requires { ⌜ BoxedIn (now quotas) (now ends) (now sums) from to area (now l) (now r) ⌝ }
     ensures { λ _. ⌜ new l ≡ lefts (directionBy upright) (area .l .0) (forestIn (old quotas) (old ends) from to) ⌝ }
     ensures { λ _. ⌜ new r ≡ rights (directionBy upright) (area .r .0) (forestIn (old quotas) (old ends) from to) ⌝ }

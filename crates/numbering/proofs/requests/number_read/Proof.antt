@@ -44,34 +44,32 @@ number-read-spec =
     (tie.spec
     (λ c κs. search needs) (λ c. search needs) (λ c. search needs)
     (λ c κs.
-    let k = c .before .before .before .before .before .before .before .before in
+    let k = c .before .before .before .before .before .before in
     let r = read-at k in
     let bytes = k .before .before .before .before .before .before .before .before .shared-slice-known in
-    let lq = c .before .before .before .before .before .before .number-entries-arg2 .given .0 in
-    let le = c .before .before .before .before .number-entries-arg4 .given .0 in
-    let ls = c .before .before .number-entries-arg6 .given .0 in (
-      (omega (arith, r .entries-most), omega (arith, r .entries-most), omega (arith, r .entries-most), omega (arith, r .entries-most), omega (arith, r .entries-most)),
+    let lq = c .before .before .before .before .number-entries-arg2 .given .0 in
+    let ls = start (k .before .before .before) .pre in (
+      (omega (arith, r .entries-most), omega (arith, r .entries-most), omega (arith, r .entries-most), omega (arith, r .entries-most)),
       held
-          (λ i. omega (arith, bytes .given i)) r lq le ls,
+          (λ i. omega (arith, bytes .given i)) r lq (ls .0) (ls .1),
     ))
     (λ c.
     let d = c .before .before .before in
     let e = not-received (now (start d .args .bytes)) (sym (ap requestSays (c .before .why .given .1)) ∙ d .read-request .ensures .0) in
     (rw e, (entries-at d, (rw e, rw e))))
     (λ c.
-    let k = c .before .before .before .before .before .before .before .before .before in
+    let k = c .before .before .before .before .before .before .before in
     let r = read-at k in
     let bytes = k .before .before .before .before .before .before .before .before .shared-slice-known in
-    let lq = c .before .before .before .before .before .before .before .number-entries-arg2 .given .0 in
-    let le = c .before .before .before .before .before .number-entries-arg4 .given .0 in
-    let ls = c .before .before .before .number-entries-arg6 .given .0 in
+    let lq = c .before .before .before .before .before .number-entries-arg2 .given .0 in
+    let ls = start (k .before .before .before) .pre in
     let d = k .before .before .before in (
       sym (ap requestSays (k .before .exploded .given .1)) ∙ d .read-request .ensures .0,
       (
         entries-at d,
         (
-          c .number-entries .ensures .0 ∙ ap (λ (s : List ℕ). sets (now (start d .args .l)) 0 s) (lefts-back (λ i. omega (arith, bytes .given i)) r lq le ls),
-          c .number-entries .ensures .1 ∙ ap (λ (s : List ℕ). sets (now (start d .args .r)) 0 s) (rights-back (λ i. omega (arith, bytes .given i)) r lq le ls),
+          c .number-entries .ensures .0 ∙ ap (λ (s : List ℕ). sets (now (start d .args .l)) 0 s) (lefts-back (λ i. omega (arith, bytes .given i)) r lq (ls .0) (ls .1)),
+          c .number-entries .ensures .1 ∙ ap (λ (s : List ℕ). sets (now (start d .args .r)) 0 s) (rights-back (λ i. omega (arith, bytes .given i)) r lq (ls .0) (ls .1)),
         ),
       ),
     )))

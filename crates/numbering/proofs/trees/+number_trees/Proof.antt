@@ -79,7 +79,7 @@ abbrev Filled : ℕ → Type 0
 Filled t = lts.After-number-trees (claims t) (here-at t) number-trees.Post Inv-loop μ-loop
 
 abbrev start : {t : ℕ} → Loop t → Start t
-start c = c .before .before .before .before .before .before .before
+start c = c .before .before .before .before .before
 
 -- the first tree that is left
 first : (t : ℕ) (c : Loop t)
@@ -157,11 +157,11 @@ pub +number-trees-spec : {M : Type 1} → statement M
     close μ
     λ t.
     lts.spec (claims t) (here-at t) number-trees.Post Inv-loop μ-loop
-    (λ c. begins (c .before .before .before .before .before .pre .1 .1))
+    (λ c. begins (c .before .before .before .pre .1 .1))
     (λ c. omega arith)
     (λ c. omega arith)
     (λ c. omega arith)
-    (λ c. omega (arith, c .shared-slice-known5 .given (c .before .before .before .loop .p)))
+    (λ c. omega arith)
     (λ c κs. tt)
     (λ c. search needs)
     (λ c. absurd (dead t c))
@@ -175,7 +175,7 @@ pub +number-trees-spec : {M : Type 1} → statement M
     (λ c κs. tt)
     (λ c. omega arith)
     (λ c. omega arith)
-    (λ c. omega (arith, c .shared-slice-known6 .given (round (c .before .before) .before .loop .p)))
+    (λ c. let h = first t (round (c .before .before)) in omega (arith, h .most))
     (λ c κs. tt)
     (λ c. search needs)
     (λ c. absurd (dead-corner t c))
@@ -228,6 +228,6 @@ pub +number-trees-spec : {M : Type 1} → statement M
     (wrote w .write3 .ensures) (w .write4 .ensures)
     (y .number-trees .ensures .0 ∙ ap₂ (λ (z : Box) f. lefts up (z .l .0) f) (inner-at t p) back)
     (y .number-trees .ensures .1 ∙ ap₂ (λ (z : Box) f. rights up (z .r .0) f) (inner-at t p) back))
-    (λ c. let n = c .before .loop .inv in let b = c .before .before .before .before .before .before .before .pre .1 .1 in omega (arith, n .l-length, b .l-part, b .ends-at))
-    (λ c. let n = c .before .loop .inv in let b = c .before .before .before .before .before .before .before .pre .1 .1 in omega (arith, n .r-length, b .r-part, b .ends-at))
+    (λ c. let n = c .before .loop .inv in let b = c .before .before .before .before .before .pre .1 .1 in omega (arith, n .l-length, b .l-part, b .ends-at))
+    (λ c. let n = c .before .loop .inv in let b = c .before .before .before .before .before .pre .1 .1 in omega (arith, n .r-length, b .r-part, b .ends-at))
     (λ c. done (c .before .loop .inv) (c .loop-test .left))
