@@ -22,7 +22,7 @@ use Rattle.replay.specs.Replay.{Replay, replayOf, blank, growText}
 use Rattle.proved_cases.specs.Lines.{lines}
 
 -- a grant to a group whose numbers were noted after some of the calls
-pub record Held : Type 0 where
+pub record NotedGrant : Type 0 where
   pub after : ℕ
   pub grant : GroupGrant
 
@@ -49,7 +49,7 @@ pub data Case : Type 0 where
   answered : Answer Decision → String → Case
   -- fresh of a group and a quota, then calls; a pass of the group x, noted after n of them, and grants; feature and day. The pass's note and the grants',
   -- what is decided from their numbers, and what the ledger's last order gives
-  noted : (id quota : ℕ) → List Call → (n x : ℕ) → List Held → (feature day : ℕ) → List Note → (byNumbers byOrder : Answer Decision) → Case
+  noted : (id quota : ℕ) → List Call → (n x : ℕ) → List NotedGrant → (feature day : ℕ) → List Note → (byNumbers byOrder : Answer Decision) → Case
 
 -- what the definitions say, and what the document says
 pub data Outcome : Type 0 where
@@ -98,11 +98,11 @@ note id quota calls n x =
       exploded = explodedIn x (ledgerEnd (ledger id quota) (take n calls)) (drop n calls);
     }
 
-abbrev pub noteOf : (id quota : ℕ) → List Call → Held → Note
+abbrev pub noteOf : (id quota : ℕ) → List Call → NotedGrant → Note
 noteOf id quota calls h = note id quota calls (h .after) (h .grant .group)
 
 -- the grant as it is stored
-abbrev pub storedAs : (id quota : ℕ) → List Call → Held → Grant
+abbrev pub storedAs : (id quota : ℕ) → List Call → NotedGrant → Grant
 storedAs id quota calls h = let n = noteOf id quota calls h in grant (h .grant .feature) (n .l) (n .r) (h .grant .first) (h .grant .last)
 
 -- the rows after a log

@@ -9,7 +9,7 @@ use Rattle.order.specs.Order.{Order, same, first, second, incomparable}
 use Rattle.grant.specs.Grant.{grant}
 use Rattle.decide.specs.Dating.{onOpen, onUntil, ended, ahead, never}
 use Rattle.ledger.specs.Calls.{Call, refine, order, Reply, refineSays, orderSays}
-use Rattle.proved_cases.specs.Cases.{Case, Held, Note, stored, made, grown, logged, asked, answered, noted, row, stream}
+use Rattle.proved_cases.specs.Cases.{Case, NotedGrant, Note, stored, made, grown, logged, asked, answered, noted, row, stream}
 
 -- a request by its numbers
 abbrev pub request : List ℕ → Call
@@ -125,8 +125,8 @@ unfoldable pub requests9 : List Call
 requests9 = request first9 ∷ request second9 ∷ request third9 ∷ request fourth9 ∷ []
 
 -- feature 7 for a group, from day 10 to a last day, noted after n requests
-abbrev pub held : (n group last : ℕ) → Held
-held n group last = record { after = n; grant = record { feature = 7; group = group; first = 10; last = last } }
+abbrev pub notedGrant : (n group last : ℕ) → NotedGrant
+notedGrant n group last = record { after = n; grant = record { feature = 7; group = group; first = 10; last = last } }
 
 -- the note of a group that no later request explodes; of one that is exploded later
 abbrev pub kept : (l r : ℕ) → Note
@@ -165,7 +165,7 @@ cases =
     ∷ logged log9 lines9 rows9
     ∷ grown 1 100 calls9 replies9 rows9
     -- 9's pass, and grants to 5 and 3, each noted at a point of its own; then 4 is exploded. 9 ≤ 5 still, and 3's grant is still not 9's
-    ∷ noted 1 100 requests9 3 9 (held 1 5 20 ∷ held 2 3 0 ∷ []) 7 15 (kept 78 6 ∷ kept 96 96 ∷ kept 21 66 ∷ []) (answer (onUntil 20)) (answer (onUntil 20))
+    ∷ noted 1 100 requests9 3 9 (notedGrant 1 5 20 ∷ notedGrant 2 3 0 ∷ []) 7 15 (kept 78 6 ∷ kept 96 96 ∷ kept 21 66 ∷ []) (answer (onUntil 20)) (answer (onUntil 20))
     -- 4's pass noted before 4 is exploded, which `Noted` keeps out: 9 begins where 4 began in r, so that 9's grant would apply, though 4 is no subgroup of 9
-    ∷ noted 1 100 requests9 2 4 (held 3 9 20 ∷ []) 7 15 (outdated 36 6 48 36 ∷ kept 78 6 ∷ []) (answer (onUntil 20)) (answer never)
+    ∷ noted 1 100 requests9 2 4 (notedGrant 3 9 20 ∷ []) 7 15 (outdated 36 6 48 36 ∷ kept 78 6 ∷ []) (answer (onUntil 20)) (answer never)
     ∷ []

@@ -8,7 +8,7 @@ use lib.ListN.{length, drop, getD, length-drop}
 use lib.Seq.{drop-cons}
 use borrow.Author.Tests.{lt-ltb, le-ltb, eq-eqb, ne-eqb}
 use Rattle.script.specs.Words.{digitOf, longer, tokenWith, endedAt, tokenFrom, tokenAt}
-use Rattle.script.specs.Items.{numbersOf, wordOf, itemAfter, givenFrom}
+use Rattle.script.specs.Items.{tokenNumbers, wordOf, itemAfter, givenFrom}
 use Rattle.script.specs.declared.Item.{Item}
 use Rattle.script.specs.declared.Token.{Token}
 
@@ -64,7 +64,7 @@ module _ (line : List ℕ) (x : Item) where
   number-next h v = rw (v, lt-ltb _ _ h)
 
   module _ (none : x .left ≤ 0) {t : Token} (e : t ≡ tokenAt line (x .next)) where
-    pub numbers-next : {y : Item} → t .word ≡ 0 → y ≡ numbersOf t (x .section) → y ≡ itemAfter line x
+    pub numbers-next : {y : Item} → t .word ≡ 0 → y ≡ tokenNumbers t (x .section) → y ≡ itemAfter line x
     unfolding itemAfter
     numbers-next w k = k ∙ rw (le-ltb _ _ none, ← e, eq-eqb _ _ w)
 

@@ -17,8 +17,8 @@ abbrev pub numberOf : Token → ℕ → ℕ → ℕ → ℕ → Item
 numberOf t section value left step = record { word = 0; section = section; value = value; byte = t .byte; left = left; step = step; next = t .next }
 
 -- the first number that a token stands for: of `a-b`, up or down; of `a*n`; or of itself
-unfoldable pub numbersOf : Token → ℕ → Item
-numbersOf t section =
+unfoldable pub tokenNumbers : Token → ℕ → Item
+tokenNumbers t section =
     cond (eqb (t .sign) 45)
     (cond (leb (t .first) (t .value)) (numberOf t section (t .first) (t .value - t .first) 1) (numberOf t section (t .first) (t .first - t .value) 18446744073709551615))
     (cond (eqb (t .sign) 42)
@@ -39,7 +39,7 @@ itemAfter line x =
     cond (ltb 0 (x .left))
     (nextNumber x)
     (let t = tokenAt line (x .next) in
-    cond (eqb (t .word) 0) (numbersOf t (x .section)) (wordOf (cond (ltb (x .next) (length line)) (t .word) 2) t))
+    cond (eqb (t .word) 0) (tokenNumbers t (x .section)) (wordOf (cond (ltb (x .next) (length line)) (t .word) 2) t))
 
 -- the number with so many numbers before it from a position on, within so many tokens; 0 where there is none
 unfoldable pub givenFrom : ℕ → List ℕ → ℕ → ℕ → ℕ

@@ -2,7 +2,7 @@
 ghost use mathlib.Core.Path.{_≡_};
 ghost use Rattle.rules.specs.Lent.{old};
 ghost use Rattle.script.specs.Words.{digitOf, longer, tokenWith, tokenAt};
-ghost use Rattle.script.specs.Items.{firstItem, numberOf, numbersOf, itemAfter, givenOf};
+ghost use Rattle.script.specs.Items.{firstItem, numberOf, tokenNumbers, itemAfter, givenOf};
 
 // A word is known by its first letter. Of a number it is 0, before a token's first byte 1, after the last token 2.
 pub const NUMBER: u8 = 0;
@@ -161,7 +161,7 @@ fn number(t: Token, section: u8, value: u64, left: u64, step: u64) -> Item
 
 // The first number that a token stands for.
 fn numbers(t: Token, section: u8) -> Item
-    ensures { λ x. ⌜ x ≡ numbersOf t section ⌝ }
+    ensures { λ x. ⌜ x ≡ tokenNumbers t section ⌝ }
 {
     let a = t.first;
     let b = t.value;
