@@ -1,12 +1,12 @@
 // Answers as one number: a kind and a value (RULES.md, 17).
 ghost use mathlib.Core.Path.{_≡_};
 ghost use Rattle.order.specs.Says.{orderedSays};
-ghost use Rattle.decide.specs.Says.{decidedSays};
+ghost use Rattle.dating.specs.Says.{decidedSays};
 ghost use Rattle.rules.specs.Answers.{answer};
 ghost use Rattle.rules.specs.Refusals.{refusalNumber};
 ghost use Rattle.codes.specs.Codes.{refusalCode, countCode, orderCode, decisionCode};
 ghost use Rattle.codes.specs.Codes.{encoded as encodedAs};
-use decide::Decided;
+use dating::Decided;
 use order::Ordered;
 use rules::GREATEST;
 use rules::Refusal;

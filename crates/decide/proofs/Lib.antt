@@ -1,3 +1,2 @@
-mod Tallies
 pub mod Outcome
 pub mod RoundTrip

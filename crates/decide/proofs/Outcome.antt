@@ -12,11 +12,11 @@ use Rattle.grant.specs.Grant.{Grant, GrantRead, grantAt, grantsOf}
 use Rattle.grant.proofs.Listing.{inFront, grantsAt, grants-unfold, grants-done, grants-all, grants-good}
 use Rattle.matching.specs.Matching.{window, windows, appliesTo}
 use Rattle.matching.proofs.Windows.{windows-right}
-use Rattle.decide.specs.Dating.{Decision}
+use Rattle.dating.specs.Dating.{Decision}
 use Rattle.decide.specs.Decision.{questionBad, decided}
-use Rattle.decide.specs.inside.Tally.{countIn, decisionOf}
-use Rattle.decide.specs.declared.dating.Tally.{Tally}
-use Rattle.decide.proofs.Tallies.{counted, nothing, tally-dated}
+use Rattle.dating.specs.inside.Tally.{countIn, decisionOf}
+use Rattle.dating.specs.declared.Tally.{Tally}
+use Rattle.dating.proofs.Tallies.{counted, nothing, tally-dated}
 
 module _ (feature l r day : ℕ) (bytes : List ℕ) where
   abbrev pub endsAs : Tally → List Grant → Answer Decision

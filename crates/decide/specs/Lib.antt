@@ -1,4 +1,1 @@
-pub mod Dating
 pub mod Decision
-pub mod Says
-pub mod inside

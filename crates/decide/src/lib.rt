@@ -1,12 +1,11 @@
 // The decision on a feature for a pass (RULES.md, 10): the grants are read, matched, and their windows dated.
-mod dating;
-
 ghost use mathlib.Core.Path.{_≡_};
 ghost use Rattle.rules.specs.Lent.{old};
 ghost use Rattle.decide.specs.Decision.{questionBad, decided, asked};
-ghost use Rattle.decide.specs.Says.{decidedSays};
+ghost use Rattle.dating.specs.Says.{decidedSays};
 use boxes::LValue;
 use boxes::RValue;
+use dating::Decided;
 use dating::Tally;
 use dating::count_in;
 use dating::decision_of;
@@ -16,20 +15,6 @@ use matching::applies;
 use number::Drawn;
 use number::number_at;
 use rules::Refusal;
-
-// What is decided on a feature.
-pub enum Decided {
-    // On, and without an end.
-    OnOpen,
-    // On, and the last day.
-    OnUntil(u32),
-    // Ended, and the last day.
-    Ended(u32),
-    // Yet to begin, and the first day.
-    Ahead(u32),
-    Never,
-    Refused(Refusal),
-}
 
 // 15: feature, pass l or r, or day is 0.
 fn question_bad(feature: u32, l: u32, r: u32, day: u32) -> bool

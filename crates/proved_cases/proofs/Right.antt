@@ -13,7 +13,7 @@ use Rattle.request.specs.Acceptance.{accepted}
 use Rattle.refine.specs.Refine.{refineRows, explodedRows, refined}
 use Rattle.grant.specs.Grant.{grantBad, checkedGrant, grantAt, grantsFrom, grantsOf, grantBytes, grantsBytes}
 use Rattle.matching.specs.Matching.{windows, appliesTo}
-use Rattle.decide.specs.Dating.{isOpen, runs, hasEnded, yetToBegin, those, someOpen, greatestLast, leastFirst, tried, dated}
+use Rattle.dating.specs.Dating.{isOpen, runs, hasEnded, yetToBegin, those, someOpen, greatestLast, leastFirst, tried, dated}
 use Rattle.decide.specs.Decision.{questionBad, decided}
 use Rattle.ledger.specs.Ledger.{freshLedger, acceptedBy, isOther, staysBelow, belowEntries, aboveEntries, itself, byTrees, orderAfter, replace, explodedLedger, ledgerRefined, ledgerOrder}
 use Rattle.ledger.specs.Calls.{engineReply, engineAfter, engineReplies, engineEnd, engineStart, ledgerReply, ledgerAfter, ledgerReplies, ledgerEnd, explodes, explodedIn}

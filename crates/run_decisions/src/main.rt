@@ -1,5 +1,5 @@
 // The test program for decisions: its input is a script, of which it prints each line with what the line's call answers.
-use decide::Decided;
+use dating::Decided;
 use libc::STDIN_FILENO;
 use number::Written;
 use script::given;

@@ -1,6 +1,6 @@
 -- `codes::decision_code` meets its contract: each case has its kind.
 use mathlib.Core.Path.{ap, sym, _∙_}
-use Rattle.decide.specs.Says.{decidedSays}
+use Rattle.dating.specs.Says.{decidedSays}
 use Rattle.codes.specs.Codes.{decisionCode}
 use borrow.Author.Needs.{needs}
 use Rattle.codes.proofs.decision_code.Statement.{statement}

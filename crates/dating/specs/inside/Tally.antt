@@ -3,8 +3,8 @@ use Prim.Native.Nat.{ℕ, min, max}
 use mathlib.Core.Bool.{Bool, true, cond}
 use lib.Dec.{eqb, ltb}
 use Rattle.matching.specs.Matching.{Window}
-use Rattle.decide.specs.Dating.{Decision, onOpen, onUntil, ended, ahead, never}
-use Rattle.decide.specs.declared.dating.Tally.{Tally}
+use Rattle.dating.specs.Dating.{Decision, onOpen, onUntil, ended, ahead, never}
+use Rattle.dating.specs.declared.Tally.{Tally}
 
 abbrev pub tally : Bool → (on over coming : ℕ) → Tally
 tally endless on over coming = record { endless = endless; on = on; over = over; coming = coming }

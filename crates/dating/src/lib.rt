@@ -2,20 +2,34 @@
 ghost use mathlib.Core.Path.{_≡_};
 ghost use Prim.Native.Nat.{max};
 ghost use Rattle.rules.specs.Answers.{answer};
-ghost use Rattle.decide.specs.Says.{decidedSays};
-ghost use Rattle.decide.specs.inside.Tally.{countIn, earlier, decisionOf};
-use crate::Decided;
+ghost use Rattle.dating.specs.Says.{decidedSays};
+ghost use Rattle.dating.specs.inside.Tally.{countIn, earlier, decisionOf};
+use rules::Refusal;
+
+// What is decided on a feature.
+pub enum Decided {
+    // On, and without an end.
+    OnOpen,
+    // On, and the last day.
+    OnUntil(u32),
+    // Ended, and the last day.
+    Ended(u32),
+    // Yet to begin, and the first day.
+    Ahead(u32),
+    Never,
+    Refused(Refusal),
+}
 
 // What is kept of the windows. A day 0 stands for none: the days that are kept here are 1 or more.
-pub(crate) struct Tally {
+pub struct Tally {
     // One that runs is open.
-    pub(crate) endless: bool,
+    pub endless: bool,
     // The greatest last day of those that run.
-    pub(crate) on: u32,
+    pub on: u32,
     // The greatest last day of those that have ended.
-    pub(crate) over: u32,
+    pub over: u32,
     // The least first day of those that have yet to begin.
-    pub(crate) coming: u32,
+    pub coming: u32,
 }
 
 fn greater(a: u32, b: u32) -> u32
@@ -38,7 +52,7 @@ fn lesser(known: u32, day: u32) -> u32
 }
 
 // One more window, counted in.
-pub(crate) fn count_in(day: u32, t: Tally, first: u32, last: u32) -> Tally
+pub fn count_in(day: u32, t: Tally, first: u32, last: u32) -> Tally
     ensures { λ s. ⌜ s ≡ countIn day t (record { first = first; last = last }) ⌝ }
 {
     if day < first {
@@ -74,7 +88,7 @@ pub(crate) fn count_in(day: u32, t: Tally, first: u32, last: u32) -> Tally
 }
 
 // What the tally says in the end.
-pub(crate) fn decision_of(t: Tally) -> Decided
+pub fn decision_of(t: Tally) -> Decided
     ensures { λ d. ⌜ decidedSays d ≡ answer (decisionOf t) ⌝ }
 {
     if t.endless {

@@ -10,9 +10,9 @@ use Rattle.rules.proofs.Cases.{by-lt, by-eq}
 use Rattle.rules.proofs.Bools.{or-none, and-both}
 use Rattle.matching.specs.Matching.{Window}
 use Rattle.matching.proofs.Windows.{Right, AllRight}
-use Rattle.decide.specs.Dating.{isOpen, runs, hasEnded, yetToBegin, those, someOpen, greatestLast, leastFirst, onOpen, onUntil, ended, ahead, tried, dated}
-use Rattle.decide.specs.inside.Tally.{tally, earlier, countIn, decisionOf}
-use Rattle.decide.specs.declared.dating.Tally.{Tally}
+use Rattle.dating.specs.Dating.{isOpen, runs, hasEnded, yetToBegin, those, someOpen, greatestLast, leastFirst, onOpen, onUntil, ended, ahead, tried, dated}
+use Rattle.dating.specs.inside.Tally.{tally, earlier, countIn, decisionOf}
+use Rattle.dating.specs.declared.Tally.{Tally}
 
 -- ## Tests on windows
 

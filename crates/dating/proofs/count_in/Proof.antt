@@ -1,11 +1,11 @@
--- `decide::dating::count_in` meets its contract.
+-- `dating::count_in` meets its contract.
 use mathlib.Core.Path.{refl}
 use borrow.Author.Needs.{needs}
 use borrow.Author.Tests.{eq-eqb, ne-eqb, lt-ltb, le-ltb}
-use Rattle.decide.specs.inside.Tally.{countIn}
-use Rattle.decide.proofs.Tallies.{same-tally}
-use Rattle.decide.proofs.dating.count_in.Statement.{statement}
-use Rattle.decide.proofs.dating.count_in.Tie as tie
+use Rattle.dating.specs.inside.Tally.{countIn}
+use Rattle.dating.proofs.Tallies.{same-tally}
+use Rattle.dating.proofs.count_in.Statement.{statement}
+use Rattle.dating.proofs.count_in.Tie as tie
 
 pub count-in-spec : {M : Type 1} → statement M
 unfolding countIn

@@ -1,8 +1,8 @@
--- `decide::dating::decision_of` meets its contract.
+-- `dating::decision_of` meets its contract.
 use borrow.Author.Tests.{lt-ltb, le-ltb}
-use Rattle.decide.specs.inside.Tally.{decisionOf}
-use Rattle.decide.proofs.dating.decision_of.Statement.{statement}
-use Rattle.decide.proofs.dating.decision_of.Tie as tie
+use Rattle.dating.specs.inside.Tally.{decisionOf}
+use Rattle.dating.proofs.decision_of.Statement.{statement}
+use Rattle.dating.proofs.decision_of.Tie as tie
 
 pub decision-of-spec : {M : Type 1} → statement M
 unfolding decisionOf

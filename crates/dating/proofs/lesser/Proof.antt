@@ -1,9 +1,9 @@
--- `decide::dating::lesser` meets its contract.
+-- `dating::lesser` meets its contract.
 use native.Mathlib.Omega.{arith}
 use borrow.Author.Tests.{eq-eqb, ne-eqb}
-use Rattle.decide.specs.inside.Tally.{earlier}
-use Rattle.decide.proofs.dating.lesser.Statement.{statement}
-use Rattle.decide.proofs.dating.lesser.Tie as tie
+use Rattle.dating.specs.inside.Tally.{earlier}
+use Rattle.dating.proofs.lesser.Statement.{statement}
+use Rattle.dating.proofs.lesser.Tie as tie
 
 pub lesser-spec : {M : Type 1} → statement M
 unfolding earlier

@@ -1,0 +1,3 @@
+pub mod Dating
+pub mod Says
+pub mod inside
