@@ -1,1 +1,7 @@
+mod Days
+mod Idle
+mod Running
+mod Runs
+pub mod Readings
+pub mod Renewals
 pub mod Tallies

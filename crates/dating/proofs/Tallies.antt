@@ -1,161 +1,142 @@
--- One pass over windows keeps what dating them asks.
+-- What readings keep of the windows is what dating them asks.
 use mathlib.Core.Path.{_≡_, refl, ap, sym, _∙_}
-use mathlib.Core.Bool.{Bool, true, false, cond, not, _||_, or-true, or-false}
+use mathlib.Core.Bool.{Bool, true, false, cond, or-true}
 use mathlib.Core.List.{List, [], _∷_}
-use Prim.Native.Nat.{ℕ, min, max, _<_, _≤_}
+use mathlib.Core.Logic.{_≢_}
+use Prim.Native.Nat.{ℕ, suc, _+_, _<_, _≤_}
 use native.Mathlib.Omega.{arith}
-use lib.Dec.{eqb}
-use borrow.Author.Tests.{eq-eqb, ne-eqb, lt-ltb, le-ltb, le-leb, lt-leb, eqb-false, ltb-true, not-true}
+use lib.Dec.{ltb}
+use borrow.Author.Tests.{eq-eqb, ne-eqb, lt-ltb, le-ltb}
 use Rattle.rules.proofs.Cases.{by-lt, by-eq}
-use Rattle.rules.proofs.Bools.{or-none, and-both}
 use Rattle.matching.specs.Matching.{Window}
 use Rattle.matching.proofs.Windows.{Right, AllRight}
-use Rattle.dating.specs.Dating.{isOpen, runs, hasEnded, yetToBegin, those, someOpen, greatestLast, leastFirst, onOpen, onUntil, ended, ahead, tried, dated}
-use Rattle.dating.specs.inside.Tally.{tally, earlier, countIn, decisionOf}
+use Rattle.dating.specs.Dating.{isOpen, runs}
+use Rattle.dating.specs.Renewals.{someRuns}
+use Rattle.dating.specs.inside.Run.{earlier, carry}
+use Rattle.dating.specs.inside.Tally.{tally, runWith, openWith, countIn, countedIn}
+use Rattle.dating.specs.declared.run.Run.{Run}
 use Rattle.dating.specs.declared.Tally.{Tally}
+use Rattle.dating.proofs.Days.{runs-from, runs-open}
+use Rattle.dating.proofs.Runs.{earlier-one, earlier-least, Settled, Closed, Fair, carry-fair, carry-settled}
 
--- ## Tests on windows
-
--- all windows pass a test
-abbrev All : (Window → Bool) → List Window → Type 0
-All p [] = Unit {0}
-All p (w ∷ ws) = (p w ≡ true) × All p ws
-
-those-first : (p : Window → Bool) (w : Window) (ws : List Window) {b : Bool} → p w ≡ b → those p (w ∷ ws) ≡ cond b (w ∷ those p ws) (those p ws)
-unfolding those
-those-first p w ws e = rw e
-
-those-all : (p : Window → Bool) (ws : List Window) → All p (those p ws)
-unfolding those
-those-all p [] = tt
-those-all p (w ∷ ws) = go (p w) refl (those-all p ws)
-  where
-    go : (b : Bool) → p w ≡ b → All p (those p ws) → All p (cond b (w ∷ those p ws) (those p ws))
-    go true e rest = (e, rest)
-    go false e rest = rest
-
--- ## A window counted in
-
--- the least of a day and the first days of windows, where 0 is none yet
-unfoldable soonest : ℕ → List Window → ℕ
-soonest day [] = day
-soonest day (w ∷ ws) = soonest (earlier day (w .first)) ws
-
-abbrev summary : Tally → (running over coming : List Window) → Tally
-summary t running over coming =
-    tally (t .endless || someOpen running) (greatestLast (t .on) running) (greatestLast (t .over) over) (soonest (t .coming) coming)
-
-unfoldable pub counted : ℕ → Tally → List Window → Tally
-counted day t [] = t
-counted day t (w ∷ ws) = counted day (countIn day t w) ws
-
-abbrev kept : ℕ → Tally → List Window → Tally
-kept day t ws = summary t (those (runs day) ws) (those (hasEnded day) ws) (those (yetToBegin day) ws)
-
-pub same-tally : {x x′ : Bool} {a a′ b b′ d d′ : ℕ} → x ≡ x′ → a ≡ a′ → b ≡ b′ → d ≡ d′ → tally x a b d ≡ tally x′ a′ b′ d′
+pub same-tally : {r r′ : Run} {a a′ b b′ d d′ : ℕ} → r ≡ r′ → a ≡ a′ → b ≡ b′ → d ≡ d′ → tally r a b d ≡ tally r′ a′ b′ d′
 same-tally e f g h = cc
 
-module _ (day : ℕ) (t : Tally) (w : Window) (ws : List Window) (right : Right w) where
-  step-coming : day < w .first → kept day (countIn day t w) ws ≡ kept day t (w ∷ ws)
-  unfolding countIn soonest runs hasEnded yetToBegin isOpen
-  step-coming h =
-      let no : runs day w ≡ false = rw (lt-leb _ _ h) in
-      let notOver : hasEnded day w ≡ false = by-eq (w .last) 0 (λ e. rw (eq-eqb (w .last) 0 e)) (λ e. rw (ne-eqb (w .last) 0 e) (le-ltb (w .last) day (omega (arith, right e)))) in
-      let yes : yetToBegin day w ≡ true = lt-ltb _ _ h in
-      rw (those-first (runs day) w ws no, those-first (hasEnded day) w ws notOver, those-first (yetToBegin day) w ws yes, lt-ltb _ _ h)
+abbrev pub Every : (Window → Type 0) → List Window → Type 0
+Every P [] = Unit {0}
+Every P (w ∷ ws) = P w × Every P ws
 
-  step-endless : w .first ≤ day → w .last ≡ 0 → kept day (countIn day t w) ws ≡ kept day t (w ∷ ws)
-  unfolding countIn someOpen greatestLast runs hasEnded yetToBegin isOpen
-  step-endless h z =
-      let e : eqb (w .last) 0 ≡ true = eq-eqb _ _ z in
-      let m : max (t .on) (w .last) ≡ t .on = omega arith in
-      let yes : runs day w ≡ true = rw (le-leb _ _ h, e) in
-      let notOver : hasEnded day w ≡ false = rw e in
-      let no : yetToBegin day w ≡ false = le-ltb _ _ h in
-      rw (those-first (runs day) w ws yes, those-first (hasEnded day) w ws notOver, those-first (yetToBegin day) w ws no, le-ltb _ _ h, e)
-      (same-tally (sym (or-true (t .endless))) (ap (λ (n : ℕ). greatestLast n (those (runs day) ws)) (sym m)) refl refl)
+-- ## The windows that begin later than a day
 
-  step-over : w .first ≤ day → (w .last ≡ 0 → ⊥) → w .last < day → kept day (countIn day t w) ws ≡ kept day t (w ∷ ws)
-  unfolding countIn greatestLast runs hasEnded yetToBegin isOpen
-  step-over h z l =
-      let e : eqb (w .last) 0 ≡ false = ne-eqb _ _ z in
-      let notOn : runs day w ≡ false = rw (le-leb _ _ h, e) (lt-leb _ _ l) in
-      let yes : hasEnded day w ≡ true = rw e (lt-ltb _ _ l) in
-      let no : yetToBegin day w ≡ false = le-ltb _ _ h in
-      rw (those-first (runs day) w ws notOn, those-first (hasEnded day) w ws yes, those-first (yetToBegin day) w ws no, le-ltb _ _ h, e, lt-ltb _ _ l)
+unfoldable pub later : ℕ → List Window → ℕ
+later x [] = 0
+later x (w ∷ ws) = cond (ltb x (w .first)) (suc (later x ws)) (later x ws)
 
-  step-on : w .first ≤ day → (w .last ≡ 0 → ⊥) → day ≤ w .last → kept day (countIn day t w) ws ≡ kept day t (w ∷ ws)
-  unfolding countIn someOpen greatestLast runs hasEnded yetToBegin isOpen
-  step-on h z l =
-      let e : eqb (w .last) 0 ≡ false = ne-eqb _ _ z in
-      let yes : runs day w ≡ true = rw (le-leb _ _ h, e) (le-leb _ _ l) in
-      let notOver : hasEnded day w ≡ false = rw e (le-ltb _ _ l) in
-      let no : yetToBegin day w ≡ false = le-ltb _ _ h in
-      rw (those-first (runs day) w ws yes, those-first (hasEnded day) w ws notOver, those-first (yetToBegin day) w ws no, le-ltb _ _ h, e, le-ltb _ _ l)
+-- a window begins on day f: between the days before it and the days from it on there is one fewer
+abbrev First : List Window → ℕ → Type 0
+First ws f = (x y : ℕ) → x < f → f ≤ y → later y ws < later x ws
 
-  step : kept day (countIn day t w) ws ≡ kept day t (w ∷ ws)
-  step =
-      by-lt day (w .first) step-coming
-      (λ h. by-eq (w .last) 0 (step-endless h) (λ z. by-lt (w .last) day (step-over h z) (step-on h z)))
+module _ (w : Window) (ws : List Window) where
+  later-in : (x : ℕ) → x < w .first → later x (w ∷ ws) ≡ suc (later x ws)
+  unfolding later
+  later-in x h = rw (lt-ltb _ _ h)
 
-counted-kept : (day : ℕ) (t : Tally) (ws : List Window) → AllRight ws → counted day t ws ≡ kept day t ws
-unfolding counted those someOpen greatestLast soonest
-counted-kept day t [] r = same-tally (sym (or-false (t .endless))) refl refl refl
-counted-kept day t (w ∷ ws) r = counted-kept day (countIn day t w) ws (r .1) ∙ step day t w ws (r .0)
+  later-out : (x : ℕ) → w .first ≤ x → later x (w ∷ ws) ≡ later x ws
+  unfolding later
+  later-out x h = rw (le-ltb _ _ h)
 
--- ## The end
+later-less : (ws : List Window) (x y : ℕ) → x ≤ y → later y ws ≤ later x ws
+unfolding later
+later-less [] x y h = omega arith
+later-less (w ∷ ws) x y h =
+    let i = later-less ws x y h in
+    by-lt y (w .first)
+    (λ a. omega (arith, i, later-in w ws y a, later-in w ws x (omega arith)))
+    (λ a. by-lt x (w .first) (λ b. omega (arith, i, later-out w ws y a, later-in w ws x b)) (λ b. omega (arith, i, later-out w ws y a, later-out w ws x b)))
 
-greatest-least : (a : ℕ) (ws : List Window) → a ≤ greatestLast a ws
-unfolding greatestLast
-greatest-least a [] = omega arith
-greatest-least a (w ∷ ws) = omega (arith, greatest-least (max a (w .last)) ws)
+first-here : (w : Window) (ws : List Window) → First (w ∷ ws) (w .first)
+first-here w ws x y a b = omega (arith, later-in w ws x a, later-out w ws y b, later-less ws x y (omega arith))
 
-soonest-least : (day a : ℕ) (ws : List Window) → 1 ≤ a → All (yetToBegin day) ws → (soonest a ws ≡ leastFirst a ws) × (1 ≤ leastFirst a ws)
-unfolding soonest leastFirst yetToBegin earlier
-soonest-least day a [] h all = (refl, h)
-soonest-least day a (w ∷ ws) h all =
-    let f = ltb-true day (w .first) (all .0) in
-    let n : eqb a 0 ≡ false = ne-eqb a 0 (λ e. omega (arith, h, e)) in
-    let m : 1 ≤ min a (w .first) = omega (arith, h, f) in
-    let i = soonest-least day (min a (w .first)) ws m (all .1) in
-    (rw n (i .0), i .1)
+first-there : (w : Window) (ws : List Window) (f : ℕ) → First ws f → First (w ∷ ws) f
+first-there w ws f h x y a b =
+    let i = h x y a b in
+    by-lt y (w .first)
+    (λ c. omega (arith, i, later-in w ws y c, later-in w ws x (omega arith)))
+    (λ c. by-lt x (w .first) (λ e. omega (arith, i, later-out w ws y c, later-in w ws x e)) (λ e. omega (arith, i, later-out w ws y c, later-out w ws x e)))
 
-abbrev pub nothing : Tally
-nothing = tally false 0 0 0
+-- ## One more window
 
-decision-tried : (day : ℕ) (running over coming : List Window) → All (hasEnded day) over → All (yetToBegin day) coming
-    → decisionOf (summary nothing running over coming) ≡ tried running over coming
-unfolding decisionOf tried someOpen isOpen greatestLast soonest hasEnded yetToBegin earlier
-decision-tried day (w ∷ ws) over coming ao ac = go (someOpen (w ∷ ws)) refl
-  where
-    go : (b : Bool) → someOpen (w ∷ ws) ≡ b
-        → decisionOf (tally b (greatestLast 0 (w ∷ ws)) (greatestLast 0 over) (soonest 0 coming)) ≡ cond b onOpen (onUntil (greatestLast (w .last) ws))
-    go true e = refl
-    go false e =
-        let o = eqb-false (w .last) 0 (or-none (eqb (w .last) 0) (someOpen ws) e .0) in
-        let m : max 0 (w .last) ≡ w .last = omega arith in
-        let k = greatest-least (w .last) ws in
-        rw (m, lt-ltb 0 (greatestLast (w .last) ws) (omega arith))
-decision-tried day [] (w ∷ ws) coming ao ac = last
-  where
-    last : decisionOf (tally false 0 (greatestLast 0 (w ∷ ws)) (soonest 0 coming)) ≡ ended (greatestLast (w .last) ws)
-    last =
-        let o = eqb-false (w .last) 0 (not-true _ (and-both (not (eqb (w .last) 0)) _ (ao .0) .0)) in
-        let m : max 0 (w .last) ≡ w .last = omega arith in
-        let k = greatest-least (w .last) ws in
-        rw (m, lt-ltb 0 (greatestLast (w .last) ws) (omega arith))
-decision-tried day [] [] (w ∷ ws) ao ac = first
-  where
-    first : decisionOf (tally false 0 0 (soonest 0 (w ∷ ws))) ≡ ahead (leastFirst (w .first) ws)
-    first =
-        let f = ltb-true day (w .first) (ac .0) in
-        let i = soonest-least day (w .first) ws (omega arith) (ac .1) in
-        rw (i .0, lt-ltb 0 (leastFirst (w .first) ws) (i .1))
-decision-tried day [] [] [] ao ac = refl
+module _ (all : List Window) where
+  -- the days that are covered by all windows
+  abbrev Covered : ℕ → Type 0
+  Covered d = someRuns d all ≡ true
 
--- the windows' tally says what the windows say
-pub tally-dated : (day : ℕ) (ws : List Window) → AllRight ws → decisionOf (counted day nothing ws) ≡ dated day ws
-unfolding dated
-tally-dated day ws r =
-    ap decisionOf (counted-kept day nothing ws r)
-    ∙ decision-tried day (those (runs day) ws) (those (hasEnded day) ws) (those (yetToBegin day) ws) (those-all (hasEnded day) ws) (those-all (yetToBegin day) ws)
+  -- one of them
+  pub record Member (w : Window) : Type 0 where
+    pub right : Right w
+    pub covers : (d : ℕ) → runs d w ≡ true → Covered d
+    pub begins : First all (w .first)
+
+  pub members : (ws : List Window) → AllRight ws → ((d : ℕ) → someRuns d ws ≡ true → Covered d) → ((f : ℕ) → First ws f → First all f) → Every Member ws
+  unfolding someRuns
+  members [] r c f = tt
+  members (w ∷ ws) r c f = (
+    record { right = r .0; covers = λ d e. c d (rw e); begins = f (w .first) (first-here w ws) },
+    members ws (r .1) (λ d e. c d (rw (e, or-true (runs d w)))) (λ x h. f x (first-there w ws x h)),
+  )
+
+  -- a window was counted in: an open one begins no earlier than the least first day of these, a closed one is settled
+  abbrev pub Seen : Run → ℕ → Window → Type 0
+  Seen r o w = (w .last ≡ 0 → (1 ≤ o) × (o ≤ w .first)) × (w .last ≢ 0 → Settled r w)
+
+  module _ (day s : ℕ) where
+    -- a reading so far
+    pub record Good (r : Run) (o : ℕ) : Type 0 where
+      pub fair : Fair Covered (First all) day s r
+      pub endlessly : 1 ≤ o → (d : ℕ) → o ≤ d → Covered d
+
+    record Step (r : Run) (o : ℕ) (w : Window) (r′ : Run) (o′ : ℕ) : Type 0 where
+      good : Good r′ o′
+      here : Seen r′ o′ w
+      kept : (v : Window) → Seen r o v → Seen r′ o′ v
+
+    step : (r : Run) (o : ℕ) (w : Window) → Member w → Good r o → Step r o w (runWith r w) (openWith o w)
+    unfolding runWith openWith isOpen
+    step r o w m g = by-eq (w .last) 0 (λ z. rw (eq-eqb _ _ z) (opened z)) (λ z. rw (ne-eqb _ _ z) (closed z))
+      where
+        opened : w .last ≡ 0 → Step r o w r (earlier o (w .first))
+        opened z =
+            let l = earlier-least o (w .first) (m .right .begins) in
+            record {
+              good = record {
+                fair = g .fair;
+                endlessly = λ _. earlier-one (λ (e : ℕ). (d : ℕ) → e ≤ d → Covered d) o (w .first) (g .endlessly) (λ d h. m .covers d (runs-open d w h z));
+              };
+              here = (λ _. (l .0, l .1), λ n. absurd (n z));
+              kept = λ v k. (λ e. let a = k .0 e in (l .0, omega (arith, l .2 (a .0), a .1)), k .1);
+            }
+
+        closed : w .last ≢ 0 → Step r o w (carry r w) o
+        closed z =
+            let c : Closed Covered (First all) w = record { closed = z; right = m .right .ends z; covers = λ d a b. m .covers d (runs-from d w a z b); begins = m .begins } in
+            let e = carry-settled Covered (First all) day s r w c (g .fair) in
+            record {
+              good = record { fair = carry-fair Covered (First all) day s r w c (g .fair); endlessly = g .endlessly };
+              here = (λ n. absurd (z n), λ _. e .0);
+              kept = λ v k. (k .0, λ n. e .1 v (k .1 n));
+            }
+
+    -- a whole reading
+    pub record Whole (ws : List Window) (r : Run) (o : ℕ) (r′ : Run) (o′ : ℕ) : Type 0 where
+      pub good : Good r′ o′
+      pub seen : Every (Seen r′ o′) ws
+      pub kept : (v : Window) → Seen r o v → Seen r′ o′ v
+
+    pub whole : (t : Tally) (ws : List Window) → Every Member ws → Good (t .run) (t .open_from)
+        → Whole ws (t .run) (t .open_from) (countedIn day t ws .run) (countedIn day t ws .open_from)
+    unfolding countedIn countIn
+    whole t [] m g = record { good = g; seen = tt; kept = λ v k. k }
+    whole t (w ∷ ws) m g =
+        let a = step (t .run) (t .open_from) w (m .0) g in
+        let b = whole (countIn day t w) ws (m .1) (a .good) in
+        record { good = b .good; seen = (b .kept w (a .here), b .seen); kept = λ v k. b .kept v (a .kept v k) }

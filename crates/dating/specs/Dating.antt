@@ -1,8 +1,9 @@
 -- What windows say on a day (RULES.md, 10).
-use Prim.Native.Nat.{ℕ, min, max}
+use Prim.Native.Nat.{ℕ, zero, suc, min, max}
 use mathlib.Core.Bool.{Bool, false, cond, not, _&&_, _||_}
 use mathlib.Core.List.{List, [], _∷_}
 use lib.Dec.{eqb, leb, ltb}
+use lib.ListN.{length}
 use Rattle.matching.specs.Matching.{Window}
 
 -- Last day 0 means open, without an end
@@ -48,16 +49,29 @@ pub data Decision : Type 0 where
   ahead : ℕ → Decision
   never : Decision
 
+-- where none runs: ended, ahead, never, tried in turn
+unfoldable pub notOn : (over coming : List Window) → Decision
+notOn (w ∷ ws) coming = ended (greatestLast (w .last) ws)
+notOn [] (w ∷ ws) = ahead (leastFirst (w .first) ws)
+notOn [] [] = never
+
+-- The windows that run on a day carry the run of days: to "open" if one of them is open, else to the greatest of their last days, and further
+-- from there
+unfoldable pub prolonged : (running : List Window) (none : Decision) (further : ℕ → Decision) → Decision
+prolonged [] none further = none
+prolonged (w ∷ ws) none further = cond (someOpen (w ∷ ws)) onOpen (further (greatestLast (w .last) ws))
+
+-- The run of days is known up to day u: those that run on the next day carry it. Each window does so once at most, so that there are no more
+-- steps than windows: `follows-on` of proofs/Renewals.antt says that the count never stops the run
+unfoldable pub runFrom : (most : ℕ) → List Window → ℕ → Decision
+runFrom zero ws u = onUntil u
+runFrom (suc most) ws u = prolonged (those (runs (suc u)) ws) (onUntil u) (runFrom most ws)
+
 -- The decision tries in turn:
--- on: some applying grant runs; the answer carries "open" if a running one is open, else their greatest last day;
+-- on: some applying grant runs; carries the last day of the unbroken run of days, beginning with today, on each of which some applying grant
+-- runs, or "open" if that run meets an open grant (specs/Renewals.antt has this sentence day by day);
 -- ended: some applying grant has ended; carries the greatest last day of those;
 -- ahead: some applying grant has yet to begin; carries the least first day;
 -- never
-unfoldable pub tried : (running over coming : List Window) → Decision
-tried (w ∷ ws) over coming = cond (someOpen (w ∷ ws)) onOpen (onUntil (greatestLast (w .last) ws))
-tried [] (w ∷ ws) coming = ended (greatestLast (w .last) ws)
-tried [] [] (w ∷ ws) = ahead (leastFirst (w .first) ws)
-tried [] [] [] = never
-
 unfoldable pub dated : ℕ → List Window → Decision
-dated t ws = tried (those (runs t) ws) (those (hasEnded t) ws) (those (yetToBegin t) ws)
+dated t ws = prolonged (those (runs t) ws) (notOn (those (hasEnded t) ws) (those (yetToBegin t) ws)) (runFrom (length ws) ws)

@@ -1,3 +1,4 @@
 pub mod Dating
+pub mod Renewals
 pub mod Says
 pub mod inside

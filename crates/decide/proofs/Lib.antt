@@ -1,2 +1,3 @@
+mod Deciding
 pub mod Outcome
 pub mod RoundTrip

@@ -1,4 +1,4 @@
--- What is decided from a position of the grant list on, with a tally of the grants before it.
+-- What a reading of the grant list gives from a position on, with a tally of the grants before it.
 use mathlib.Core.Path.{_≡_, refl, ap, _∙_}
 use mathlib.Core.Bool.{true, false}
 use mathlib.Core.List.{List}
@@ -7,26 +7,22 @@ use native.Mathlib.Omega.{arith}
 use lib.ListN.{length, take, drop, length-drop}
 use lib.Seq.{take-all}
 use Rattle.rules.specs.Answers.{Answer, answer, refused, then}
-use Rattle.rules.proofs.Answers.{then-same}
-use Rattle.grant.specs.Grant.{Grant, GrantRead, grantAt, grantsOf}
-use Rattle.grant.proofs.Listing.{inFront, grantsAt, grants-unfold, grants-done, grants-all, grants-good}
+use Rattle.grant.specs.Grant.{Grant, GrantRead, grantAt}
+use Rattle.grant.proofs.Listing.{inFront, grantsAt, grants-unfold, grants-done, grants-all}
 use Rattle.matching.specs.Matching.{window, windows, appliesTo}
-use Rattle.matching.proofs.Windows.{windows-right}
-use Rattle.dating.specs.Dating.{Decision}
-use Rattle.decide.specs.Decision.{questionBad, decided}
-use Rattle.dating.specs.inside.Tally.{countIn, decisionOf}
+use Rattle.dating.specs.inside.Tally.{countIn, countedIn}
+use Rattle.decide.specs.inside.ListReading.{listRead}
 use Rattle.dating.specs.declared.Tally.{Tally}
-use Rattle.dating.proofs.Tallies.{counted, nothing, tally-dated}
 
 module _ (feature l r day : ℕ) (bytes : List ℕ) where
-  abbrev pub endsAs : Tally → List Grant → Answer Decision
-  endsAs t gs = answer (decisionOf (counted day t (windows window (appliesTo feature l r) gs)))
+  abbrev pub endsAs : Tally → List Grant → Answer Tally
+  endsAs t gs = answer (countedIn day t (windows window (appliesTo feature l r) gs))
 
-  unfoldable pub outcome : ℕ → Tally → Answer Decision
+  unfoldable pub outcome : ℕ → Tally → Answer Tally
   outcome at t = then (grantsAt bytes at) (endsAs t)
 
-  pub outcome-ends : (at : ℕ) (t : Tally) → length bytes ≤ at → outcome at t ≡ answer (decisionOf t)
-  unfolding outcome counted windows
+  pub outcome-ends : (at : ℕ) (t : Tally) → length bytes ≤ at → outcome at t ≡ answer t
+  unfolding outcome countedIn windows
   outcome-ends at t h = ap (λ (a : Answer (List Grant)). then a (endsAs t)) (grants-done bytes at h)
 
   pub outcome-refused : (at : ℕ) (t : Tally) {n : ℕ} → at < length bytes → grantAt bytes at ≡ refused n → outcome at t ≡ refused n
@@ -36,29 +32,26 @@ module _ (feature l r day : ℕ) (bytes : List ℕ) where
   -- a grant that applies is counted in, another one is not
   pub outcome-applies : (at : ℕ) (t : Tally) {g : GrantRead} → at < length bytes → grantAt bytes at ≡ answer g → appliesTo feature l r (g .grant) ≡ true
       → outcome at t ≡ outcome (g .next) (countIn day t (window (g .grant)))
-  unfolding outcome windows counted
-  outcome-applies at t {g} h e y = rw (grants-unfold bytes at h, e) (joined (grantsAt bytes (g .next)))
+  unfolding outcome windows countedIn
+  outcome-applies at t {g} h e y = rw (grants-unfold bytes at h, e) (withStretch (grantsAt bytes (g .next)))
     where
-      joined : (rest : Answer (List Grant)) → then (inFront g rest) (endsAs t) ≡ then rest (endsAs (countIn day t (window (g .grant))))
-      joined (answer gs) = rw y
-      joined (refused n) = refl
+      withStretch : (rest : Answer (List Grant)) → then (inFront g rest) (endsAs t) ≡ then rest (endsAs (countIn day t (window (g .grant))))
+      withStretch (answer gs) = rw y
+      withStretch (refused n) = refl
 
   pub outcome-other : (at : ℕ) (t : Tally) {g : GrantRead} → at < length bytes → grantAt bytes at ≡ answer g → appliesTo feature l r (g .grant) ≡ false
       → outcome at t ≡ outcome (g .next) t
-  unfolding outcome windows counted
-  outcome-other at t {g} h e y = rw (grants-unfold bytes at h, e) (joined (grantsAt bytes (g .next)))
+  unfolding outcome windows countedIn
+  outcome-other at t {g} h e y = rw (grants-unfold bytes at h, e) (withStretch (grantsAt bytes (g .next)))
     where
-      joined : (rest : Answer (List Grant)) → then (inFront g rest) (endsAs t) ≡ then rest (endsAs t)
-      joined (answer gs) = rw y
-      joined (refused n) = refl
+      withStretch : (rest : Answer (List Grant)) → then (inFront g rest) (endsAs t) ≡ then rest (endsAs t)
+      withStretch (answer gs) = rw y
+      withStretch (refused n) = refl
 
-  -- past 15, the outcome from the start is what is decided
-  pub outcome-decided : questionBad feature l r day ≡ false → outcome 0 nothing ≡ decided feature l r day bytes
-  unfolding outcome decided
-  outcome-decided e =
-      ap (λ (a : Answer (List Grant)). then a (endsAs nothing)) (grants-all bytes)
-      ∙ then-same (grantsOf bytes) _ _ (λ gs f. ap answer (tally-dated day (windows window (appliesTo feature l r) gs) (windows-right (appliesTo feature l r) gs (grants-good bytes f))))
-      ∙ rw e
+  -- from the start it is the whole reading
+  pub outcome-whole : (t : Tally) → outcome 0 t ≡ listRead feature l r day bytes t
+  unfolding outcome listRead
+  outcome-whole t = ap (λ (a : Answer (List Grant)). then a (endsAs t)) (grants-all bytes)
 
 -- the bytes from a position to their end
 pub rest-of : (bytes : List ℕ) (at : ℕ) → take (length bytes - at) (drop at bytes) ≡ drop at bytes

@@ -3,12 +3,17 @@ ghost use mathlib.Core.Path.{_≡_};
 ghost use Rattle.rules.specs.Lent.{old};
 ghost use Rattle.decide.specs.Decision.{questionBad, decided, asked};
 ghost use Rattle.dating.specs.Says.{decidedSays};
+ghost use Rattle.decide.specs.inside.ListReading.{readSays};
+ghost use Rattle.decide.specs.inside.ListReading.{listRead};
 use boxes::LValue;
 use boxes::RValue;
 use dating::Decided;
 use dating::Tally;
+use dating::again;
 use dating::count_in;
 use dating::decision_of;
+use dating::unread;
+use dating::unsettled;
 use grant::GrantDrawn;
 use grant::grant_at;
 use matching::applies;
@@ -23,25 +28,22 @@ fn question_bad(feature: u32, l: u32, r: u32, day: u32) -> bool
     (feature == 0) | ((l == 0) | ((r == 0) | (day == 0)))
 }
 
-// The decision on a feature for a pass (l, r) and a day: 15, then the whole list from left to right (1, 2, 14).
-// One pass over the bytes, with any number of grants.
-pub fn decide(feature: u32, l: u32, r: u32, day: u32, grants: &[u8]) -> Decided
-    ensures { λ t. ⌜ decidedSays t ≡ decided feature l r day (old grants) ⌝ }
+// What one reading of a grant list gives.
+enum ListRead {
+    Tally(Tally),
+    Refused(Refusal),
+}
+
+// One reading of the whole list, from left to right (1, 2, 14): the windows of the grants that apply are counted in.
+fn read_list(feature: u32, l: u32, r: u32, day: u32, grants: &[u8], before: Tally) -> ListRead
+    ensures { λ t. ⌜ readSays t ≡ listRead feature l r day (old grants) before ⌝ }
 {
-    if question_bad(feature, l, r, day) {
-        return Decided::Refused(Refusal::Question);
-    }
-    let mut t = Tally {
-        endless: false,
-        on: 0,
-        over: 0,
-        coming: 0,
-    };
+    let mut t = before;
     let mut at = 0;
     while at < grants.len() {
         match grant_at(grants, at) {
             GrantDrawn::Refused(why) => {
-                return Decided::Refused(why);
+                return ListRead::Refused(why);
             }
             GrantDrawn::Grant(g, next) => {
                 if applies(feature, LValue::new(l as u64), RValue::new(r as u64), g) {
@@ -51,7 +53,30 @@ pub fn decide(feature: u32, l: u32, r: u32, day: u32, grants: &[u8]) -> Decided
             }
         }
     }
-    decision_of(t)
+    ListRead::Tally(t)
+}
+
+// The decision on a feature for a pass (l, r) and a day: 15, then the whole list from left to right (1, 2, 14).
+// The list is read once, and again only as long as a window that was left out follows on from the run of days by now: never more often than
+// there are applying grants, and once more.
+pub fn decide(feature: u32, l: u32, r: u32, day: u32, grants: &[u8]) -> Decided
+    ensures { λ t. ⌜ decidedSays t ≡ decided feature l r day (old grants) ⌝ }
+{
+    if question_bad(feature, l, r, day) {
+        return Decided::Refused(Refusal::Question);
+    }
+    let mut t = unread(day);
+    while unsettled(t) {
+        match read_list(feature, l, r, day, grants, again(t)) {
+            ListRead::Refused(why) => {
+                return Decided::Refused(why);
+            }
+            ListRead::Tally(s) => {
+                t = s;
+            }
+        }
+    }
+    decision_of(day, t)
 }
 
 // A question in bytes: feature, l, r and day (1 or 2 for a bad one, then 15), then a grant list.

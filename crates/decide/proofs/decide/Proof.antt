@@ -1,21 +1,18 @@
--- `decide::decide` meets its contract. The loop's invariant: what is still to be read, with the tally so far, gives what is decided on the whole.
-use mathlib.Core.Path.{_≡_, ap, sym, _∙_}
-use Prim.Native.Nat.{_-_, _≤_}
-use native.Mathlib.Omega.{arith}
-use lib.ListN.{length}
+-- `decide::decide` meets its contract. The loop's measure says that there are no more readings than applying grants and one.
+use mathlib.Core.Path.{ap, sym, _∙_}
+use mathlib.Core.Logic.{inl}
 use borrow.Author.Needs.{needs}
-use Rattle.grant.specs.Says.{grantSays}
-use Rattle.grant.proofs.Listing.{grant-stands}
 use Rattle.decide.specs.Decision.{decided}
-use Rattle.decide.proofs.Outcome.{outcome, outcome-ends, outcome-refused, outcome-applies, outcome-other, outcome-decided}
+use Rattle.decide.specs.inside.ListReading.{readSays}
+use Rattle.decide.proofs.Deciding.{Between, readings, read-on, read-refused, read-through}
 use Rattle.decide.proofs.decide.Statement.{statement}
 use Rattle.decide.proofs.decide.Tie as tie
 
 abbrev Inv-loop : tie.InvT-loop
-Inv-loop feature l r day grants t₀ at₀ t at = (at ≤ length grants) × (outcome feature l r day grants at t ≡ decided feature l r day grants)
+Inv-loop feature l r day grants t₀ t = Between feature l r day grants t
 
 abbrev μ-loop : tie.MeasureT-loop
-μ-loop feature l r day grants t₀ at₀ t at = length grants - at
+μ-loop feature l r day grants t₀ t = readings feature l r day grants t
 
 returns : tie.Need-returns Inv-loop μ-loop
 unfolding decided
@@ -29,37 +26,28 @@ decide-spec =
     μ-loop
     (λ c κs. search needs)
     returns
-    (λ c. (omega arith, outcome-decided _ _ _ _ _ (sym (c .before .question-bad .ensures) ∙ c .if1 .left)))
-    (λ c κs. search needs) (λ c. search needs)
-    (λ c.
-    let a = c .before .before .before in
-    let i = a .before .before .loop in
-    let e = sym (a .grant-at .ensures) ∙ ap grantSays (c .before .why .given .1) in
-    sym (outcome-refused _ _ _ _ _ (i .at) (i .t) (a .before .loop-test .taken) e) ∙ i .inv .1)
-    (λ c. search needs) (λ c κs. search needs) (λ c κs. search needs) (λ c κs. search needs) (λ c κs. search needs)
-    (λ c.
-    let g : tie.After-g Inv-loop μ-loop = search in
-    let s = grant-stands _ _ (sym (g .before .before .grant-at .ensures) ∙ ap grantSays (g .g .given .1)) in
-    omega (arith, s .starts, s .ends))
-    (λ c.
-    let g : tie.After-g Inv-loop μ-loop = search in
-    let p : tie.After-applies Inv-loop μ-loop = search in
-    let a = g .before .before in
-    let i = a .before .before .loop in
-    let e = sym (a .grant-at .ensures) ∙ ap grantSays (g .g .given .1) in
-    let y = sym (rw (p .before .before .new .ensures, p .before .new2 .ensures) at (p .applies .ensures)) ∙ c .before .if2 .taken in
-    (grant-stands _ _ e .ends, rw (c .count-in .ensures) (sym (outcome-applies _ _ _ _ _ (i .at) (i .t) (a .before .loop-test .taken) e y) ∙ i .inv .1)))
-    (λ c.
-    let g : tie.After-g Inv-loop μ-loop = search in
-    let s = grant-stands _ _ (sym (g .before .before .grant-at .ensures) ∙ ap grantSays (g .g .given .1)) in
-    omega (arith, s .starts, s .ends))
-    (λ c.
-    let g : tie.After-g Inv-loop μ-loop = search in
-    let p : tie.After-applies Inv-loop μ-loop = search in
-    let a = g .before .before in
-    let i = a .before .before .loop in
-    let e = sym (a .grant-at .ensures) ∙ ap grantSays (g .g .given .1) in
-    let n = sym (rw (p .before .before .new .ensures, p .before .new2 .ensures) at (p .applies .ensures)) ∙ c .if2 .left in
-    (grant-stands _ _ e .ends, sym (outcome-other _ _ _ _ _ (i .at) (i .t) (a .before .loop-test .taken) e n) ∙ i .inv .1))
     (λ c κs. search needs)
-    (λ c. let i = c .before .before .loop in c .decision-of .ensures ∙ sym (outcome-ends _ _ _ _ _ (i .at) (i .t) (c .before .loop-test .left)) ∙ i .inv .1))
+    (λ c. record { asked = sym (c .before .before .question-bad .ensures) ∙ c .before .if1 .left; made = inl (c .unread .ensures) })
+    (λ c κs. search needs) (λ c κs. search needs) (λ c κs. search needs) (λ c. search needs)
+    (λ c.
+    let p : tie.At-loop Inv-loop μ-loop = search in
+    let a : tie.After-read-list Inv-loop μ-loop = search in
+    let e = sym (rw (a .before .again .ensures) at (a .read-list .ensures)) ∙ ap readSays (c .before .why .given .1) in
+    read-refused _ _ _ _ _ _ (p .loop .inv .asked) e)
+    (λ c. search needs)
+    (λ c.
+    let p : tie.At-loop Inv-loop μ-loop = search in
+    let q : tie.Then2 Inv-loop μ-loop = search in
+    let a : tie.After-read-list Inv-loop μ-loop = search in
+    let e = sym (rw (a .before .again .ensures) at (a .read-list .ensures)) ∙ ap readSays (c .before .s .given .1) in
+    read-on _ _ _ _ _ (p .loop .t) _ (p .loop .inv) (sym (q .before .unsettled .ensures) ∙ q .if2 .taken) e .1)
+    (λ c.
+    let p : tie.At-loop Inv-loop μ-loop = search in
+    let q : tie.Then2 Inv-loop μ-loop = search in
+    let a : tie.After-read-list Inv-loop μ-loop = search in
+    let e = sym (rw (a .before .again .ensures) at (a .read-list .ensures)) ∙ ap readSays (c .before .s .given .1) in
+    read-on _ _ _ _ _ (p .loop .t) _ (p .loop .inv) (sym (q .before .unsettled .ensures) ∙ q .if2 .taken) e .0)
+    (λ c κs. search needs)
+    (λ c.
+    let p : tie.At-loop Inv-loop μ-loop = search in
+    c .decision-of .ensures ∙ read-through _ _ _ _ _ (p .loop .t) (p .loop .inv) (sym (c .before .before .unsettled .ensures) ∙ c .before .if2 .left)))

@@ -1,0 +1,17 @@
+-- `dating::run::carry` meets its contract.
+use mathlib.Core.Path.{refl, sym, _∙_}
+use borrow.Author.Needs.{needs}
+use Rattle.dating.specs.inside.Run.{carry}
+use Rattle.dating.proofs.Runs.{same-run}
+use Rattle.dating.proofs.run.carry.Statement.{statement}
+use Rattle.dating.proofs.run.carry.Tie as tie
+
+pub carry-spec : {M : Type 1} → statement M
+unfolding carry
+carry-spec =
+    tie.close
+    (tie.spec
+    (λ c κs. search needs) (λ c κs. search needs) (λ c κs. search needs)
+    (λ c. rw (sym (c .before .before .before .follows-from .ensures) ∙ c .before .before .if1 .taken, ← (c .before .greater .ensures)) (c .with-stretch .ensures))
+    (λ c κs. search needs)
+    (λ c. rw (sym (c .before .before .follows-from .ensures) ∙ c .before .if1 .left) (c .set-aside .ensures)))
