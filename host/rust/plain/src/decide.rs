@@ -5,9 +5,9 @@ use crate::{Reader, Refused};
 /// What is decided of a feature on a day.
 #[derive(Clone, Copy, PartialEq, Eq, Debug)]
 pub enum Decision {
-    /// On, without an end.
+    /// On: the run of days meets an open grant.
     Open,
-    /// On until this day, included.
+    /// On: the last day of the unbroken run of days.
     Until(u32),
     /// Ended on this day.
     Ended(u32),
@@ -51,13 +51,20 @@ impl Grant {
     }
 }
 
+/// A window of days.
+#[derive(Clone, Copy, Debug)]
+struct Window {
+    first: u32,
+    last: u32,
+}
+
 /// What the applying grants that were met amount to.
-#[derive(Clone, Copy, Default, Debug)]
+#[derive(Clone, Default, Debug)]
 pub struct Tally {
     open: bool,
     until: u32,
     ended: u32,
-    ahead: Option<u32>,
+    ahead: Vec<Window>,
 }
 
 impl Tally {
@@ -65,7 +72,10 @@ impl Tally {
     #[inline]
     pub fn add(&mut self, first: u32, last: u32, day: u32) {
         if first > day {
-            self.ahead = Some(self.ahead.map_or(first, |least| least.min(first)));
+            // Where an open grant runs, nothing that lies ahead counts.
+            if !self.open {
+                self.ahead.push(Window { first, last });
+            }
         } else if last == 0 {
             self.open = true;
         } else if last >= day {
@@ -80,13 +90,29 @@ impl Tally {
         if self.open {
             Decision::Open
         } else if self.until != 0 {
-            Decision::Until(self.until)
+            follow(self.until, self.ahead)
         } else if self.ended != 0 {
             Decision::Ended(self.ended)
         } else {
-            self.ahead.map_or(Decision::Never, Decision::Ahead)
+            self.ahead.iter().map(|window| window.first).min().map_or(Decision::Never, Decision::Ahead)
         }
     }
+}
+
+/// Follows a run of days on from its last day, through the windows that lie ahead.
+fn follow(mut until: u32, mut ahead: Vec<Window>) -> Decision {
+    ahead.sort_unstable_by_key(|window| window.first);
+    for Window { first, last } in ahead {
+        // A window ahead begins on day 2 or later.
+        if first - 1 > until {
+            break;
+        }
+        if last == 0 {
+            return Decision::Open;
+        }
+        until = until.max(last);
+    }
+    Decision::Until(until)
 }
 
 /// Decides a feature for the pass (l, r) on a day, over a grant list's bytes.

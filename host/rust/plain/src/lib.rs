@@ -1,4 +1,5 @@
-//! Document 01 in plain Rust, written from its sentences and from nothing else.
+//! Document 01 and note 1 of document 02 in plain Rust, written from their sentences and from
+//! nothing else.
 //!
 //! The tests compare the engine with it, answer by answer and column by column, and the
 //! benchmark takes its times as the measure. It is no part of what a host links.
