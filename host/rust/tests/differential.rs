@@ -10,7 +10,7 @@ use common::both::{Answer, Both};
 use common::bytes::{damaged, encode};
 use common::guarded::Lent;
 use common::rng::{one_seed, seeds, Rng, Seed};
-use common::{requests, tables};
+use common::{requests, tables, windows};
 use zintukor::Pass;
 
 /// One list of calls on one table.
@@ -19,6 +19,8 @@ struct List<'a> {
     both: &'a mut Both,
     lent: Lent,
     count: usize,
+    /// How many decisions followed on past the windows of the day asked about.
+    followed_on: u64,
 }
 
 impl List<'_> {
@@ -32,7 +34,7 @@ impl List<'_> {
             assert_eq!(both.fresh(&mut lent, group, quota), Answer::Count(1));
             count = 1;
         }
-        List { rng, both, lent, count }
+        List { rng, both, lent, count, followed_on: 0 }
     }
 
     fn step(&mut self) {
@@ -201,34 +203,50 @@ impl List<'_> {
         self.both.fresh(&mut lent, group, 0);
     }
 
-    /// A grant list around the pass of a group, its numbers and days near the ones asked about.
+    /// A grant list around the pass of a group, its numbers and days near the ones asked about, or
+    /// windows that follow on. Of some lists nearly every grant applies.
     fn decide(&mut self) {
         let rng = &mut self.rng;
         let row = rng.below(self.count);
         let [_, l, r, _] = self.lent.parts();
         let (l, r) = (l[row], r[row]);
-        let day = if rng.once_in(2) { rng.between(1, 40) } else { rng.number() };
         let feature = rng.pick(&[1, 2, 200, u32::MAX]);
-        let how_many = if rng.once_in(30) { 500 } else { rng.below(7) };
+        let how_many = if rng.once_in(30) { 500 } else { rng.below(9) };
         let near = |rng: &mut Rng, x: u32| match rng.below(6) {
             0 => x.saturating_sub(1).max(1),
             1 => x.saturating_add(1),
             2 => rng.number().max(1),
             _ => x,
         };
-        let mut numbers = Vec::new();
-        for _ in 0..how_many {
-            let first = near(rng, day).max(1);
-            let last = match rng.below(5) {
-                0 => 0,
-                1 => first,
-                _ => near(rng, day).max(first),
+        let (day, windows) = if rng.once_in(2) {
+            let windows = windows::windows(rng, how_many);
+            (windows::day(rng, &windows), windows)
+        } else {
+            let day = if rng.once_in(2) { rng.between(1, 40) } else { rng.number() };
+            let window = |_| {
+                let first = near(rng, day).max(1);
+                let last = match rng.below(5) {
+                    0 => 0,
+                    1 => first,
+                    _ => near(rng, day).max(first),
+                };
+                (first, last)
             };
-            let feature = if rng.once_in(4) { rng.pick(&[1, 2, 200, u32::MAX]) } else { feature };
-            numbers.extend([feature, near(rng, l), near(rng, r), first, last]);
+            (day, (0..how_many).map(window).collect())
+        };
+        let aside = rng.pick(&[2, 20, 1_000]);
+        let mut numbers = Vec::new();
+        for &(first, last) in &windows {
+            let mut place = [feature, l, r];
+            if rng.once_in(aside) {
+                place = [rng.pick(&[feature, 1, 2, 200, u32::MAX]), near(rng, l), near(rng, r)];
+            }
+            numbers.extend(place);
+            numbers.extend([first, last]);
         }
         let (mut question, list) = ([feature, l, r, day], encode(&numbers));
-        self.both.decide(question[0], Pass { l, r }, question[3], &list);
+        let answer = self.both.decide(question[0], Pass { l, r }, question[3], &list);
+        self.followed_on += u64::from(windows::followed_on(answer, &windows, day));
         // The same with a broken grant or question.
         if !numbers.is_empty() {
             let at = rng.below(numbers.len());
@@ -258,6 +276,7 @@ const CALLS: [(&str, &[u32], &[&str]); 6] = [
 #[test]
 fn every_call_is_the_plain_one() {
     let mut both = Both::default();
+    let mut followed_on = 0;
     for seed in seeds(1, 6_000) {
         let _named = Seed(seed);
         let mut list = List::new(seed, &mut both);
@@ -265,8 +284,9 @@ fn every_call_is_the_plain_one() {
         for _ in 0..steps {
             list.step();
         }
+        followed_on += list.followed_on;
     }
-    println!("{} calls", both.calls);
+    println!("{} calls, {followed_on} decisions that followed on", both.calls);
     for (call, ..) in CALLS {
         println!("{call}: {:?}, refused {:?}", both.kinds.get(call), both.refused.get(call));
     }
@@ -281,6 +301,7 @@ fn every_call_is_the_plain_one() {
         let times = both.refused[call].values().chain(both.kinds[call].values());
         assert!(times.min() > Some(&50), "{call}: an answer came too seldom");
     }
+    assert!(followed_on > 500);
     let all: BTreeSet<u32> = both.refused.values().flat_map(|seen| seen.keys().copied()).collect();
     let numbers: BTreeSet<u32> = zintukor::Refusal::ALL.iter().map(|refusal| refusal.number()).collect();
     assert_eq!(all, numbers);

@@ -1,5 +1,9 @@
-//! Document 01's examples, through the wrappers: those marked P and those that are run only.
+//! Document 01's examples, through the wrappers: those marked P and those that are run only. Then
+//! cases of document 02.
 
+mod common;
+
+use common::rng::Rng;
 use zintukor::{
     decide, entry, grants, write_number, Decision, Entry, Grant, Order, Pass, Refusal, Request, Row, Table,
 };
@@ -180,4 +184,131 @@ fn figure_9b() {
     let back = Table::read(11, &bytes).unwrap();
     assert_eq!(rows(&back), expected);
     assert_eq!(back.store().unwrap(), bytes);
+}
+
+/// The decision on feature 7 for the pass (1, 1), over windows of it at (2, 2); last day 0 is open.
+fn renewed(day: u32, windows: &[(u32, u32)]) -> Decision {
+    let at = Pass { l: 2, r: 2 };
+    let list: Vec<Grant> =
+        windows.iter().map(|&(first, last)| Grant::new(7, at, first).until(last)).collect();
+    decide(7, Pass { l: 1, r: 1 }, day, &grants(&list)).unwrap()
+}
+
+/// Both ways round.
+#[track_caller]
+fn both_ways(day: u32, one: (u32, u32), other: (u32, u32), decision: Decision) {
+    assert_eq!(renewed(day, &[one, other]), decision);
+    assert_eq!(renewed(day, &[other, one]), decision);
+}
+
+/// Document 02, note 1.
+#[test]
+fn renewals_that_follow_on() {
+    both_ways(15, (10, 20), (21, 30), Decision::OnUntil(30));
+    both_ways(10, (10, 20), (21, 30), Decision::OnUntil(30));
+    both_ways(20, (10, 20), (21, 30), Decision::OnUntil(30));
+    both_ways(21, (10, 20), (21, 30), Decision::OnUntil(30));
+    both_ways(100, (1, 100), (101, 101), Decision::OnUntil(101));
+    // A gap of a day.
+    both_ways(15, (10, 20), (22, 30), Decision::OnUntil(20));
+    both_ways(21, (10, 20), (22, 30), Decision::Ended(20));
+    // Overlapping, contained, equal.
+    both_ways(15, (10, 20), (20, 30), Decision::OnUntil(30));
+    both_ways(15, (10, 20), (16, 30), Decision::OnUntil(30));
+    both_ways(15, (10, 20), (16, 18), Decision::OnUntil(20));
+    both_ways(15, (10, 20), (16, 20), Decision::OnUntil(20));
+    both_ways(15, (10, 20), (10, 20), Decision::OnUntil(20));
+    assert_eq!(renewed(15, &[(21, 30), (10, 20), (21, 30)]), Decision::OnUntil(30));
+    // One that lies within the next does not end the run.
+    assert_eq!(renewed(15, &[(10, 20), (21, 22), (21, 30), (23, 25), (31, 40)]), Decision::OnUntil(40));
+    // An ended one neither begins a run nor cuts it.
+    assert_eq!(renewed(15, &[(1, 5), (10, 20), (6, 14), (21, 30)]), Decision::OnUntil(30));
+    // Ended and ahead stay as they are.
+    both_ways(21, (10, 20), (30, 40), Decision::Ended(20));
+    both_ways(31, (10, 20), (21, 30), Decision::Ended(30));
+    both_ways(9, (10, 20), (21, 30), Decision::Ahead(10));
+    both_ways(9, (10, 20), (21, 0), Decision::Ahead(10));
+}
+
+#[test]
+fn a_renewal_without_an_end() {
+    both_ways(15, (10, 20), (21, 0), Decision::OnOpen);
+    both_ways(15, (10, 20), (18, 0), Decision::OnOpen);
+    both_ways(15, (10, 20), (22, 0), Decision::OnUntil(20));
+    both_ways(15, (10, 20), (10, 0), Decision::OnOpen);
+    for last in [(31, 0), (30, 0), (21, 0)] {
+        assert_eq!(renewed(15, &[last, (21, 30), (10, 20)]), Decision::OnOpen);
+    }
+    assert_eq!(renewed(15, &[(32, 0), (21, 30), (10, 20)]), Decision::OnUntil(30));
+}
+
+/// A renewal counts only where it applies.
+#[test]
+fn renewals_of_others() {
+    let at = Pass { l: 2, r: 2 };
+    let first = Grant::new(7, at, 10).until(20);
+    let after = |feature: u32, l: u32, r: u32| Grant::new(feature, Pass { l, r }, 21).until(30);
+    for (renewal, last) in [
+        (after(7, 2, 2), 30),
+        (after(7, 3, 9), 30),
+        (after(8, 2, 2), 20),
+        (after(7, 1, 2), 20),
+        (after(7, 2, 1), 20),
+        (Grant { last: None, ..after(8, 2, 2) }, 20),
+        (Grant { last: None, ..after(7, 1, 2) }, 20),
+    ] {
+        for list in [[first, renewal], [renewal, first]] {
+            assert_eq!(decide(7, at, 15, &grants(&list)), Ok(Decision::OnUntil(last)), "{renewal:?}");
+        }
+    }
+    // A bad grant is refused, also past the run's end.
+    let bad = Grant::new(7, at, 40).until(39);
+    assert_eq!(decide(7, at, 15, &grants(&[first, after(7, 2, 2), bad])), Err(Refusal::Grant));
+}
+
+#[test]
+fn three_in_a_chain_in_each_order() {
+    let chain = [(10, 20), (21, 30), (31, 40)];
+    let open = [(10, 20), (21, 30), (31, 0)];
+    let apart = [(10, 20), (22, 30), (31, 40)];
+    for [a, b, c] in [[0, 1, 2], [0, 2, 1], [1, 0, 2], [1, 2, 0], [2, 0, 1], [2, 1, 0]] {
+        assert_eq!(renewed(15, &[chain[a], chain[b], chain[c]]), Decision::OnUntil(40));
+        assert_eq!(renewed(15, &[open[a], open[b], open[c]]), Decision::OnOpen);
+        assert_eq!(renewed(15, &[apart[a], apart[b], apart[c]]), Decision::OnUntil(20));
+        assert_eq!(renewed(21, &[apart[a], apart[b], apart[c]]), Decision::Ended(20));
+        assert_eq!(renewed(25, &[apart[a], apart[b], apart[c]]), Decision::OnUntil(40));
+    }
+}
+
+#[test]
+fn a_run_to_the_greatest_day() {
+    let most = u32::MAX;
+    both_ways(15, (10, 20), (21, most), Decision::OnUntil(most));
+    both_ways(15, (10, most - 1), (most, most), Decision::OnUntil(most));
+    both_ways(15, (10, most - 1), (most, 0), Decision::OnOpen);
+    both_ways(15, (10, most - 2), (most, 0), Decision::OnUntil(most - 2));
+    both_ways(15, (10, most), (most, 0), Decision::OnOpen);
+    both_ways(most, (most, most), (10, most - 1), Decision::OnUntil(most));
+    // The day after the greatest is not day 0: nothing from day 1 on follows it.
+    both_ways(most, (most, most), (1, 1), Decision::OnUntil(most));
+    both_ways(most - 1, (10, most), (1, 1), Decision::OnUntil(most));
+}
+
+/// 1,000 grants of three days each, which follow on.
+#[test]
+fn a_chain_of_1000() {
+    let mut chain: Vec<(u32, u32)> = (0..1_000).map(|k| (10 + 3 * k, 12 + 3 * k)).collect();
+    let all = Decision::OnUntil(3_009);
+    assert_eq!(renewed(11, &chain), all);
+    chain.reverse();
+    assert_eq!(renewed(11, &chain), all);
+    let mut rng = Rng::new(1);
+    for _ in 0..3 {
+        rng.shuffle(&mut chain);
+        assert_eq!(renewed(11, &chain), all);
+    }
+    // One of them a day short, and the run ends there.
+    let short = chain.iter().position(|window| window.0 == 1_510).unwrap();
+    chain[short].1 -= 1;
+    assert_eq!(renewed(11, &chain), Decision::OnUntil(1_511));
 }

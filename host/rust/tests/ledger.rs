@@ -7,8 +7,8 @@ use std::collections::{BTreeMap, HashMap};
 use common::both::{of_engine, of_plain, Answer};
 use common::bytes::{damaged, encode};
 use common::guarded::Lent;
-use common::requests;
 use common::rng::{seeds, Rng, Seed};
+use common::{requests, windows};
 use zintukor::{decide, grants, order, refine, Columns, Grant, Pass};
 use zintukor_plain::{GroupGrant, Ledger};
 
@@ -34,6 +34,8 @@ struct List {
     notes: Vec<Note>,
     accepted: usize,
     refused: BTreeMap<u32, usize>,
+    /// How many decisions followed on past the windows of the day asked about.
+    followed_on: usize,
 }
 
 impl List {
@@ -60,6 +62,7 @@ impl List {
             notes: Vec::new(),
             accepted: 0,
             refused: BTreeMap::new(),
+            followed_on: 0,
         };
         list.note();
         list
@@ -183,31 +186,37 @@ impl List {
         for _ in 0..30 {
             let rng = &mut self.rng;
             let pass = rng.pick(&self.notes);
+            // Few groups and few features, and windows that follow on.
+            let groups = [pass, rng.pick(&self.notes), rng.pick(&self.notes)];
+            let how_many = rng.below(8);
+            let windows = windows::windows(rng, how_many);
             let (mut list, mut paper) = (Vec::new(), Vec::new());
-            for _ in 0..rng.below(6) {
-                let note = rng.pick(&self.notes);
-                let feature = if rng.once_in(60) { 0 } else { rng.between(1, 2) };
-                let first = if rng.once_in(60) { 0 } else { rng.between(1, 8) };
-                let last = if rng.once_in(60) { 1 } else { rng.pick(&[0, first, first + 1, first + 4]) };
+            for &(first, last) in &windows {
+                let note = rng.pick(&groups);
+                let feature = if rng.once_in(60) { 0 } else { rng.pick(&[1, 1, 1, 2]) };
+                let first = if rng.once_in(60) { 0 } else { first };
+                let last = if rng.once_in(60) { 1 } else { last };
                 list.push(Grant { feature, group: note.pass, first, last: Some(last) });
                 paper.push(GroupGrant { feature, group: note.group, first, last });
             }
-            let feature = if rng.once_in(20) { 0 } else { rng.between(1, 2) };
-            let day = if rng.once_in(20) { 0 } else { rng.between(1, 13) };
+            let feature = if rng.once_in(20) { 0 } else { rng.pick(&[1, 1, 1, 2]) };
+            let day = if rng.once_in(20) { 0 } else { windows::day(rng, &windows) };
             let engine = of_engine(decide(feature, pass.pass, day, &grants(&list)));
             let ledger = of_plain(self.ledger.decide(feature, pass.group, day, &paper));
             assert_eq!(engine, ledger, "decision for group {} on day {day}", pass.group);
+            self.followed_on += usize::from(windows::followed_on(engine, &windows, day));
         }
     }
 }
 
-/// Runs lists; answers how many requests were accepted, and the refusals.
+/// Runs lists; answers how many requests were accepted, the refusals, and how many decisions
+/// followed on.
 fn run(
     seeds: std::ops::Range<u64>,
     length: impl Fn(&mut Rng) -> usize,
     steps: usize,
-) -> (usize, BTreeMap<u32, usize>) {
-    let (mut accepted, mut refused) = (0, BTreeMap::new());
+) -> (usize, BTreeMap<u32, usize>, usize) {
+    let (mut accepted, mut refused, mut followed_on) = (0, BTreeMap::new(), 0);
     for seed in seeds {
         let _named = Seed(seed);
         let mut rng = Rng::new(!seed);
@@ -217,19 +226,20 @@ fn run(
         }
         list.end();
         accepted += list.accepted;
+        followed_on += list.followed_on;
         for (number, times) in list.refused {
             *refused.entry(number).or_default() += times;
         }
     }
-    println!("accepted {accepted}, refused {refused:?}");
-    (accepted, refused)
+    println!("accepted {accepted}, refused {refused:?}, decisions that followed on {followed_on}");
+    (accepted, refused, followed_on)
 }
 
 #[test]
 fn many_short_lists() {
-    let (accepted, refused) = run(seeds(1, 3_000), |rng| 1 + rng.below(24), 30);
+    let (accepted, refused, followed_on) = run(seeds(1, 3_000), |rng| 1 + rng.below(24), 30);
     if !common::rng::one_seed() {
-        assert!(accepted > 3_000);
+        assert!(accepted > 3_000 && followed_on > 5_000);
         let seen: Vec<u32> = refused.keys().copied().collect();
         assert_eq!(seen, [1, 2, 3, 4, 5, 6, 7, 20, 21, 22, 23, 24]);
     }

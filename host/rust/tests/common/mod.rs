@@ -1,4 +1,4 @@
-//! What the tests share: random numbers, guarded columns, requests and tables made at random,
+//! What the tests share: random numbers, guarded columns, requests, tables and windows made at random,
 //! and the two implementations called side by side.
 #![allow(dead_code)]
 
@@ -8,3 +8,4 @@ pub mod guarded;
 pub mod requests;
 pub mod rng;
 pub mod tables;
+pub mod windows;
