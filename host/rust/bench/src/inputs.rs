@@ -80,6 +80,22 @@ pub fn grants(table: &Table, how_many: usize) -> Vec<Grant> {
         .collect()
 }
 
+/// Grants of a feature that follow on, 30 days each, the first of them from a day on.
+pub fn chain(feature: u32, group: Pass, day: u32, how_many: u32) -> Vec<Grant> {
+    let grant = |k: u32| Grant::new(feature, group, day + 30 * k).until(day + 30 * k + 29);
+    (0..how_many).map(grant).collect()
+}
+
+/// The same in any order.
+pub fn shuffled<T: Clone>(list: &[T]) -> Vec<T> {
+    let mut rng = Rng::new(13);
+    let mut list = list.to_vec();
+    for at in (1..list.len()).rev() {
+        list.swap(at, rng.below(at + 1));
+    }
+    list
+}
+
 /// Copies columns over others of the same length.
 pub fn restore(columns: &mut Columns, from: &Columns) {
     columns.id.copy_from_slice(&from.id);

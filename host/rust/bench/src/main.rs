@@ -12,7 +12,7 @@ mod timing;
 use std::hint::black_box;
 
 use timing::{compare, compare_reading, Times};
-use zintukor::{Columns, Pass, Table};
+use zintukor::{Columns, Decision, Grant, Pass, Table};
 
 /// Prints rows of one call by size, with the growth from the row before.
 struct Sizes {
@@ -31,24 +31,52 @@ impl Sizes {
         let growth = self.before.map_or(String::new(), |before| format!("{:.2}", engine / before));
         self.before = Some(engine);
         let ratio = engine / plain;
-        println!("{:<8}{size:<26}{engine:>12.1}{plain:>12.1}{ratio:>8.2}{growth:>9}", self.call);
+        println!("{:<8}{size:<36}{engine:>12.1}{plain:>12.1}{ratio:>8.2}{growth:>9}", self.call);
     }
 }
 
-fn decide() {
+/// The engine's decision as the plain version says it.
+fn as_plain(decision: Decision) -> zintukor_plain::Decision {
+    match decision {
+        Decision::OnOpen => zintukor_plain::Decision::Open,
+        Decision::OnUntil(day) => zintukor_plain::Decision::Until(day),
+        Decision::Ended(day) => zintukor_plain::Decision::Ended(day),
+        Decision::Ahead(day) => zintukor_plain::Decision::Ahead(day),
+        Decision::Never => zintukor_plain::Decision::Never,
+    }
+}
+
+/// Feature 7 on day 10,000, over grants; the time is per grant.
+fn decide(sizes: &mut Sizes, size: &str, pass: Pass, grants: &[Grant]) {
+    let list = zintukor::grants(grants);
+    let (feature, day) = (7, 10_000);
+    let Pass { l, r } = pass;
+    let plain = zintukor_plain::decide(feature, l, r, day, &list).unwrap();
+    assert_eq!(zintukor::decide(feature, pass, day, &list).map(as_plain), Ok(plain));
+    let times = compare_reading(
+        || zintukor::decide(feature, black_box(pass), day, black_box(&list)),
+        || zintukor_plain::decide(feature, black_box(l), r, day, black_box(&list)),
+    );
+    sizes.unit = grants.len() as f64;
+    sizes.row(&format!("{size}, per grant"), times);
+}
+
+fn decides() {
     let table = inputs::table(256);
     let pass = table.pass(1).unwrap();
     let mut sizes = Sizes::new("decide");
     for how_many in [10, 1_000, 100_000] {
-        let list = zintukor::grants(&inputs::grants(&table, how_many));
-        let (feature, day) = (7, 10_000);
-        let Pass { l, r } = pass;
-        let times = compare_reading(
-            || zintukor::decide(feature, black_box(pass), day, black_box(&list)),
-            || zintukor_plain::decide(feature, black_box(l), r, day, black_box(&list)),
-        );
-        sizes.unit = how_many as f64;
-        sizes.row(&format!("{how_many} grants, per grant"), times);
+        decide(&mut sizes, &format!("{how_many} grants"), pass, &inputs::grants(&table, how_many));
+    }
+    // Grants that follow on, each from the day after the one before it.
+    let chain = inputs::chain(7, pass, 10_000, 1_000);
+    let reverse: Vec<Grant> = chain.iter().rev().copied().collect();
+    for (size, chain) in [
+        ("chain of 1000 in order", &chain),
+        ("chain of 1000 in reverse", &reverse),
+        ("chain of 1000 shuffled", &inputs::shuffled(&chain)),
+    ] {
+        decide(&mut Sizes::new("decide"), size, pass, chain);
     }
 }
 
@@ -130,8 +158,8 @@ fn main() {
     if cfg!(debug_assertions) {
         eprintln!("These times mean nothing without --release.");
     }
-    println!("{:<8}{:<26}{:>12}{:>12}{:>8}{:>9}", "call", "size", "engine ns", "plain ns", "ratio", "growth");
-    decide();
+    println!("{:<8}{:<36}{:>12}{:>12}{:>8}{:>9}", "call", "size", "engine ns", "plain ns", "ratio", "growth");
+    decides();
     refines();
     order();
     store_and_read();
