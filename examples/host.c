@@ -87,6 +87,9 @@ static const uint8_t inverted[] = {4, 1, 1, 8, 6, 1, 4, 24, 2, 6, 6, 0, 7, 6, 0}
 /* A grant of feature 7 at (96, 96), group 5's numbers, from day 10 to 20. */
 static const uint8_t grants[] = {7, 96, 96, 10, 20};
 
+/* The same with a renewal that follows on, from day 21 to 30. */
+static const uint8_t renewed[] = {7, 96, 96, 10, 20, 7, 96, 96, 21, 30};
+
 int main(void)
 {
     static struct table t, back;
@@ -114,6 +117,7 @@ int main(void)
     print_decision(&t, 4, 7, 20, grants, sizeof grants);
     print_decision(&t, 4, 7, 21, grants, sizeof grants);
     print_decision(&t, 4, 8, 20, grants, sizeof grants);
+    print_decision(&t, 4, 7, 20, renewed, sizeof renewed);
 
     answer = zintukor_store(COLUMNS(&t), t.count, buffer, sizeof buffer);
     if (ZINTUKOR_KIND(answer) == ZINTUKOR_REFUSED) {

@@ -59,7 +59,7 @@ extern "C" {
 #define ZINTUKOR_SECOND 4       /* the second is a subgroup of the first */
 #define ZINTUKOR_INCOMPARABLE 5 /* neither is a subgroup of the other */
 #define ZINTUKOR_ON_OPEN 6      /* on, without an end */
-#define ZINTUKOR_ON_UNTIL 7     /* on; value: the last day */
+#define ZINTUKOR_ON_UNTIL 7     /* on; value: the last day of the unbroken run of days */
 #define ZINTUKOR_ENDED 8        /* ended; value: the last day */
 #define ZINTUKOR_AHEAD 9        /* yet to begin; value: the first day */
 #define ZINTUKOR_NEVER 10       /* no grant applies */
@@ -127,6 +127,9 @@ uint64_t zintukor_order(const uint32_t *id, size_t id_length,
  * stored number. There may be none.
  * Answers ON_OPEN, ON_UNTIL, ENDED, AHEAD or NEVER. Refusals: 15, then 1, 2 and 14 from left
  * to right.
+ * ON_UNTIL has the last day of the unbroken run of days, beginning with the day asked about,
+ * on each of which some grant that applies runs: a grant that begins on the day after another
+ * ends continues it. ON_OPEN says that the run meets a grant without an end.
  */
 uint64_t zintukor_decide(uint32_t feature, uint32_t l, uint32_t r, uint32_t day,
                          const uint8_t *grants, size_t grants_length);

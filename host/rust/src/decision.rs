@@ -5,9 +5,10 @@ use std::fmt;
 /// What is decided of a feature for a pass on a day.
 #[derive(Clone, Copy, PartialEq, Eq, Hash, Debug)]
 pub enum Decision {
-    /// On, without an end.
+    /// On, without an end: the run of days meets an open grant.
     OnOpen,
-    /// On until this day, which is included.
+    /// On: the last day of the unbroken run of days, beginning with the day asked about, on each
+    /// of which some grant that applies runs.
     OnUntil(u32),
     /// Ended: this was the last day.
     Ended(u32),

@@ -55,6 +55,7 @@ pub fn grants(grants: &[Grant]) -> Vec<u8> {
 }
 
 /// Decides a feature for a pass on a day, over a grant list's bytes; an empty list is one too.
+/// Grants stand in any order; one that begins on the day after another ends continues it.
 pub fn decide(feature: u32, pass: Pass, day: u32, grants: &[u8]) -> Result<Decision, Refusal> {
     lent::decide(feature, pass.l, pass.r, day, grants)
 }

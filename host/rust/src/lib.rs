@@ -17,9 +17,13 @@
 //! assert_eq!(table.order(2, 3)?, Order::Incomparable);
 //!
 //! // Feature 7 is granted to region 2 from day 10 to day 20; carrier 1 asks on day 15.
-//! let pass = table.pass(1).unwrap();
-//! let list = grants(&[Grant::new(7, table.pass(2).unwrap(), 10).until(20)]);
-//! assert_eq!(decide(7, pass, 15, &list)?, Decision::OnUntil(20));
+//! let (pass, region) = (table.pass(1).unwrap(), table.pass(2).unwrap());
+//! let sold = Grant::new(7, region, 10).until(20);
+//! assert_eq!(decide(7, pass, 15, &grants(&[sold]))?, Decision::OnUntil(20));
+//!
+//! // A renewal that follows on, from day 21 to day 30, counts at once.
+//! let renewal = Grant::new(7, region, 21).until(30);
+//! assert_eq!(decide(7, pass, 15, &grants(&[sold, renewal]))?, Decision::OnUntil(30));
 //! # Ok::<(), zintukor::Refusal>(())
 //! ```
 //!
