@@ -2,6 +2,7 @@ mod Days
 mod Idle
 mod Running
 mod Runs
+pub mod OneReading
 pub mod Readings
 pub mod Renewals
 pub mod Tallies

@@ -19,22 +19,24 @@ use Rattle.dating.specs.declared.Tally.{Tally}
 use Rattle.dating.proofs.Days.{not-begun, not-after, none-runs}
 use Rattle.dating.proofs.Idle.{soonest, counted-over, counted-coming, kept, idle-kept}
 use Rattle.dating.proofs.Renewals.{last-dated, open-dated}
-use Rattle.dating.proofs.Runs.{reaches-true, reaches-false, reaches-none, reaches-by, settled-by}
+use Rattle.dating.proofs.Runs.{reaches-true, reaches-false, reaches-past, reaches-by, settled-by}
 use Rattle.dating.proofs.Tallies.{Every, later, Seen, members, whole}
 
 module _ (ws : List Window) (day : ℕ) where
-  -- before a reading
-  pub record Before (t : Tally) : Type 0 where
+  -- the run so far: its days are covered, it reaches the day before today at least, and from an open window's first day on all are covered
+  pub record Known (t : Tally) : Type 0 where
     pub sound : (d : ℕ) → day ≤ d → d ≤ t .run .until → someRuns d ws ≡ true
     pub near : day ≤ t .run .until + 1
     pub endlessly : 1 ≤ t .open_from → (d : ℕ) → t .open_from ≤ d → someRuns d ws ≡ true
+
+  -- before a reading: where the run has not begun, nothing was counted in yet
+  pub record Before (t : Tally) : Type 0 where
+    pub known : Known t
     pub idle : t .run .until < day → (t .over ≡ 0) × (t .coming ≡ 0)
 
-  -- after it
+  -- after it: all windows were counted in
   pub record After (t : Tally) : Type 0 where
-    pub sound : (d : ℕ) → day ≤ d → d ≤ t .run .until → someRuns d ws ≡ true
-    pub near : day ≤ t .run .until + 1
-    pub endlessly : 1 ≤ t .open_from → (d : ℕ) → t .open_from ≤ d → someRuns d ws ≡ true
+    pub known : Known t
     pub idle : t .run .until < day → (t .over ≡ greatestLast 0 (those (hasEnded day) ws)) × (t .coming ≡ soonest 0 (those (yetToBegin day) ws))
     pub apart : 1 ≤ t .run .to → t .run .until + 1 < t .run .from
     pub ahead : 1 ≤ t .run .left → day < t .run .left
@@ -49,20 +51,18 @@ module _ (ws : List Window) (day : ℕ) where
   unfolding unread
   before-unread h =
       record {
-        sound = λ d a b. absurd (omega (arith, h, a, b));
-        near = omega arith;
-        endlessly = λ o. absurd (omega (arith, o));
+        known = record { sound = λ d a b. absurd (omega (arith, h, a, b)); near = omega arith; endlessly = λ o. absurd (omega (arith, o)) };
         idle = λ _. (refl, refl);
       }
 
   pub unread-unsettled : 1 ≤ day → unsettled (unread day) ≡ true
   unfolding unread unsettled endless
-  unread-unsettled h = rw (reaches-none (day - 1), reaches-by (day - 1) day h (omega arith))
+  unread-unsettled h = rw (reaches-past (day - 1) 0 (λ z. absurd (omega (arith, z))), reaches-by (day - 1) day h (omega arith))
 
   pub before-again : (t : Tally) → After t → unsettled t ≡ true → Before t
   before-again t a e =
       let l = unsettled-left t e in
-      record { sound = a .sound; near = a .near; endlessly = a .endlessly; idle = λ h. absurd (omega (arith, h, a .ahead (l .0), l .1)) }
+      record { known = a .known; idle = λ h. absurd (omega (arith, h, a .ahead (l .0), l .1)) }
 
   -- where no other reading is asked for, no window runs on the day after the run's end
   module _ (t : Tally) (settled : unsettled t ≡ false) (closed : endless t ≡ false) where
@@ -90,16 +90,16 @@ module _ (ws : List Window) (day : ℕ) where
     all-beyond a (w ∷ vs) e = rw (beyond a w (e .0)) (all-beyond a vs (e .1))
 
     last-day : After t → day ≤ t .run .until → LastDay ws day (t .run .until)
-    last-day a h = record { begins = h; unbroken = a .sound; ends = all-beyond a ws (a .seen) }
+    last-day a h = record { begins = h; unbroken = a .known .sound; ends = all-beyond a ws (a .seen) }
 
     none-today : After t → t .run .until < day → those (runs day) ws ≡ []
-    none-today a h = let e : day ≡ suc (t .run .until) = omega (arith, h, a .near) in none-runs day ws (ap (λ (d : ℕ). someRuns d ws) e ∙ all-beyond a ws (a .seen))
+    none-today a h = let e : day ≡ suc (t .run .until) = omega (arith, h, a .known .near) in none-runs day ws (ap (λ (d : ℕ). someRuns d ws) e ∙ all-beyond a ws (a .seen))
 
   unending : (t : Tally) → After t → endless t ≡ true → Unending ws day
   unfolding endless
   unending t a e d h =
       let b = reaches-true (t .run .until) (t .open_from) e in
-      by-lt (t .run .until) d (λ l. a .endlessly (b .0) d (omega (arith, b .1, l))) (λ l. a .sound d h l)
+      by-lt (t .run .until) d (λ l. a .known .endlessly (b .0) d (omega (arith, b .1, l))) (λ l. a .known .sound d h l)
 
   idly : (t : Tally) → After t → unsettled t ≡ false → endless t ≡ false → t .run .until < day → kept day (t .over) (t .coming) ≡ dated day ws
   unfolding dated prolonged
@@ -129,27 +129,25 @@ module _ (ws : List Window) (day : ℕ) where
         (record {
           fair = record {
             grown = omega arith;
-            sound = b .sound;
+            sound = b .known .sound;
             stretch = λ d h i j. absurd (omega (arith, h, j));
             apart = λ z. absurd (omega (arith, z));
             stretch-first = λ z. absurd (omega (arith, z));
             left-first = λ z. absurd (omega (arith, z));
           };
-          endlessly = b .endlessly;
+          endlessly = b .known .endlessly;
         }) in
         let f = w .good .fair in
         let n = countedIn day (again t) ws in (
           record {
-            sound = f .sound;
-            near = omega (arith, b .near, f .grown);
-            endlessly = w .good .endlessly;
+            known = record { sound = f .sound; near = omega (arith, b .known .near, f .grown); endlessly = w .good .endlessly };
             idle = λ h.
                 let i = b .idle (omega (arith, h, f .grown)) in (
                   counted-over day (again t) ws ∙ ap (λ (k : ℕ). greatestLast k (those (hasEnded day) ws)) (i .0),
                   counted-coming day (again t) ws ∙ ap (λ (k : ℕ). soonest k (those (yetToBegin day) ws)) (i .1),
                 );
             apart = f .apart;
-            ahead = λ h. omega (arith, b .near, f .left-first h .0);
+            ahead = λ h. omega (arith, b .known .near, f .left-first h .0);
             seen = w .seen;
           },
           λ e. let l = unsettled-left n e in let o = f .left-first (l .0) in o .1 (t .run .until + 1) (n .run .until + 1) (o .0) (l .1),

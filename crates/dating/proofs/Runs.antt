@@ -46,9 +46,9 @@ pub reaches-false : (u d : ℕ) → reaches u d ≡ false → 1 ≤ d → u + 1 
 unfolding reaches followsFrom
 reaches-false u d e h = leb-false _ _ (rw (ne-eqb d 0 (λ z. omega (arith, h, z))) at e)
 
-pub reaches-none : (u : ℕ) → reaches u 0 ≡ false
-unfolding reaches
-reaches-none u = refl
+pub reaches-past : (u d : ℕ) → (1 ≤ d → u + 1 < d) → reaches u d ≡ false
+unfolding reaches followsFrom
+reaches-past u d h = by-eq d 0 (λ z. rw (eq-eqb _ _ z)) (λ z. rw (ne-eqb _ _ z) (lt-leb _ _ (h (omega (arith, z)))))
 
 pub reaches-by : (u d : ℕ) → 1 ≤ d → d ≤ u + 1 → reaches u d ≡ true
 unfolding reaches followsFrom
@@ -57,7 +57,8 @@ reaches-by u d h k = rw (ne-eqb d 0 (λ z. omega (arith, h, z))) (le-leb _ _ k)
 -- ## By cases on what a window does
 
 module _ (P : Run → Type 0) (r : Run) (w : Window) where
-  joins : (u : ℕ) → (r .from ≤ u + 1 → P (run (max u (r .to)) 0 0 (r .left))) → (u + 1 < r .from → P (run u (r .from) (r .to) (r .left))) → P (withStretch (run u (r .from) (r .to) (r .left)))
+  joins : (u : ℕ) → (r .from ≤ u + 1 → P (run (max u (r .to)) 0 0 (r .left))) → (u + 1 < r .from → P (run u (r .from) (r .to) (r .left)))
+      → P (withStretch (run u (r .from) (r .to) (r .left)))
   unfolding withStretch followsFrom
   joins u f g = by-lt (u + 1) (r .from) (λ h. rw (lt-leb _ _ h) (g h)) (λ h. rw (le-leb _ _ h) (f h))
 

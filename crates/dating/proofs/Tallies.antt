@@ -6,6 +6,7 @@ use mathlib.Core.Logic.{_≢_}
 use Prim.Native.Nat.{ℕ, suc, _+_, _<_, _≤_}
 use native.Mathlib.Omega.{arith}
 use lib.Dec.{ltb}
+use lib.ListN.{length}
 use borrow.Author.Tests.{eq-eqb, ne-eqb, lt-ltb, le-ltb}
 use Rattle.rules.proofs.Cases.{by-lt, by-eq}
 use Rattle.matching.specs.Matching.{Window}
@@ -53,6 +54,13 @@ later-less (w ∷ ws) x y h =
     by-lt y (w .first)
     (λ a. omega (arith, i, later-in w ws y a, later-in w ws x (omega arith)))
     (λ a. by-lt x (w .first) (λ b. omega (arith, i, later-out w ws y a, later-in w ws x b)) (λ b. omega (arith, i, later-out w ws y a, later-out w ws x b)))
+
+pub later-most : (ws : List Window) (x : ℕ) → later x ws ≤ length ws
+unfolding later
+later-most [] x = omega arith
+later-most (w ∷ ws) x =
+    let i = later-most ws x in
+    by-lt x (w .first) (λ a. omega (arith, i, later-in w ws x a)) (λ a. omega (arith, i, later-out w ws x a))
 
 first-here : (w : Window) (ws : List Window) → First (w ∷ ws) (w .first)
 first-here w ws x y a b = omega (arith, later-in w ws x a, later-out w ws y b, later-less ws x y (omega arith))

@@ -1,4 +1,5 @@
 pub mod Dating
+pub mod Readings
 pub mod Renewals
 pub mod Says
 pub mod inside

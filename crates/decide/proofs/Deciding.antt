@@ -6,6 +6,7 @@ use mathlib.Core.Logic.{_⊎_, inl, inr}
 use Prim.Native.Nat.{ℕ, suc, _+_, _<_, _≤_}
 use native.Mathlib.Omega.{arith}
 use lib.Dec.{eqb}
+use lib.ListN.{length}
 use borrow.Author.Tests.{eqb-false}
 use Rattle.rules.specs.Answers.{Answer, answer, refused, then, orElse}
 use Rattle.rules.proofs.Answers.{same-answer, then-answer, then-refused}
@@ -20,7 +21,7 @@ use Rattle.dating.specs.inside.Tally.{countedIn, unsettled, unread, again, deci
 use Rattle.decide.specs.inside.ListReading.{listRead}
 use Rattle.dating.specs.declared.Tally.{Tally}
 use Rattle.dating.proofs.Readings.{Before, After, before-unread, unread-unsettled, before-again, reading, tally-dated}
-use Rattle.dating.proofs.Tallies.{later}
+use Rattle.dating.proofs.Tallies.{later, later-most}
 
 past-15 : (feature l r day : ℕ) → questionBad feature l r day ≡ false → 1 ≤ day
 unfolding questionBad
@@ -44,6 +45,14 @@ module _ (feature l r day : ℕ) (bytes : List ℕ) where
   -- at most so many readings are still to come: one, and one for each grant that applies and begins later than the day after the run's end
   abbrev pub readings : Tally → ℕ
   readings t = cond (unsettled t) (suc (later (t .run .until + 1) applying)) 0
+
+  -- so never more in all than applying grants and one
+  pub readings-most : (t : Tally) → readings t ≤ suc (length applying)
+  readings-most t = go (unsettled t)
+    where
+      go : (x : Bool) → cond x (suc (later (t .run .until + 1) applying)) 0 ≤ suc (length applying)
+      go true = omega (arith, later-most applying (t .run .until + 1))
+      go false = omega arith
 
   before : (t : Tally) → Between t → unsettled t ≡ true → Before applying day t
   before t b u = go (b .made)
