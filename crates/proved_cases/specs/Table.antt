@@ -124,9 +124,9 @@ replies9 =
 unfoldable pub requests9 : List Call
 requests9 = request first9 ∷ request second9 ∷ request third9 ∷ request fourth9 ∷ []
 
--- feature 7 for a group, from day 10 to a last day, noted after n requests
-abbrev pub notedGrant : (n group last : ℕ) → NotedGrant
-notedGrant n group last = record { after = n; grant = record { feature = 7; group = group; first = 10; last = last } }
+-- feature 7 for a group, with its days, noted after n requests
+abbrev pub notedGrant : (n group begin last : ℕ) → NotedGrant
+notedGrant n group begin last = record { after = n; grant = record { feature = 7; group = group; first = begin; last = last } }
 
 -- the note of a group that no later request explodes; of one that is exploded later
 abbrev pub kept : (l r : ℕ) → Note
@@ -156,6 +156,18 @@ cases =
     ∷ asked 7 1 1 21 (grant 7 2 2 10 20 ∷ []) (answer (ended 20))
     ∷ asked 7 1 1 10 (grant 7 2 2 10 0 ∷ []) (answer onOpen)
     ∷ asked 7 2 1 10 (grant 7 1 2 10 20 ∷ []) (answer never)
+    -- renewals that follow on, in any order; a gap of a day; an open one, met and just missed; another feature; a group that the pass is not under
+    ∷ asked 7 1 1 15 (grant 7 2 2 10 20 ∷ grant 7 2 2 21 30 ∷ []) (answer (onUntil 30))
+    ∷ asked 7 1 1 15 (grant 7 2 2 21 30 ∷ grant 7 2 2 10 20 ∷ []) (answer (onUntil 30))
+    ∷ asked 7 1 1 15 (grant 7 2 2 31 40 ∷ grant 7 2 2 10 20 ∷ grant 7 2 2 21 30 ∷ []) (answer (onUntil 40))
+    ∷ asked 7 1 1 15 (grant 7 2 2 10 20 ∷ grant 7 2 2 22 30 ∷ []) (answer (onUntil 20))
+    ∷ asked 7 1 1 15 (grant 7 2 2 21 0 ∷ grant 7 2 2 10 20 ∷ []) (answer onOpen)
+    ∷ asked 7 1 1 15 (grant 7 2 2 22 0 ∷ grant 7 2 2 10 20 ∷ []) (answer (onUntil 20))
+    ∷ asked 7 1 1 15 (grant 7 2 2 10 20 ∷ grant 8 2 2 21 30 ∷ []) (answer (onUntil 20))
+    ∷ asked 7 2 2 15 (grant 7 2 2 10 20 ∷ grant 7 1 2 21 30 ∷ []) (answer (onUntil 20))
+    ∷ asked 7 1 1 15 (grant 7 2 2 10 20 ∷ grant 7 2 2 21 4294967295 ∷ []) (answer (onUntil 4294967295))
+    ∷ asked 7 1 1 21 (grant 7 2 2 10 20 ∷ grant 7 2 2 30 40 ∷ []) (answer (ended 20))
+    ∷ asked 7 1 1 9 (grant 7 2 2 21 30 ∷ grant 7 2 2 10 20 ∷ []) (answer (ahead 10))
     ∷ answered (answer (ahead 10)) "ahead 10"
     ∷ answered (answer (onUntil 20)) "on 20"
     ∷ answered (answer (ended 20)) "ended 20"
@@ -165,7 +177,10 @@ cases =
     ∷ logged log9 lines9 rows9
     ∷ grown 1 100 calls9 replies9 rows9
     -- 9's pass, and grants to 5 and 3, each noted at a point of its own; then 4 is exploded. 9 ≤ 5 still, and 3's grant is still not 9's
-    ∷ noted 1 100 requests9 3 9 (notedGrant 1 5 20 ∷ notedGrant 2 3 0 ∷ []) 7 15 (kept 78 6 ∷ kept 96 96 ∷ kept 21 66 ∷ []) (answer (onUntil 20)) (answer (onUntil 20))
+    ∷ noted 1 100 requests9 3 9 (notedGrant 1 5 10 20 ∷ notedGrant 2 3 10 0 ∷ []) 7 15 (kept 78 6 ∷ kept 96 96 ∷ kept 21 66 ∷ []) (answer (onUntil 20)) (answer (onUntil 20))
+    -- a renewal at 5, noted later than the grant that it follows; 3's open grant is still not 9's
+    ∷ noted 1 100 requests9 3 9 (notedGrant 3 5 21 30 ∷ notedGrant 1 5 10 20 ∷ notedGrant 2 3 21 0 ∷ []) 7 15
+    (kept 78 6 ∷ kept 96 96 ∷ kept 96 96 ∷ kept 21 66 ∷ []) (answer (onUntil 30)) (answer (onUntil 30))
     -- 4's pass noted before 4 is exploded, which `Noted` keeps out: 9 begins where 4 began in r, so that 9's grant would apply, though 4 is no subgroup of 9
-    ∷ noted 1 100 requests9 2 4 (notedGrant 3 9 20 ∷ []) 7 15 (outdated 36 6 48 36 ∷ kept 78 6 ∷ []) (answer (onUntil 20)) (answer never)
+    ∷ noted 1 100 requests9 2 4 (notedGrant 3 9 10 20 ∷ []) 7 15 (outdated 36 6 48 36 ∷ kept 78 6 ∷ []) (answer (onUntil 20)) (answer never)
     ∷ []
