@@ -1,5 +1,5 @@
 -- Where no window runs: what readings keep of those that have ended, and of those that have yet to begin.
-use mathlib.Core.Path.{_≡_, refl, ap, _∙_}
+use mathlib.Core.Path.{_≡_, refl, _∙_}
 use mathlib.Core.Bool.{Bool, true, false, cond, not}
 use mathlib.Core.List.{List, [], _∷_}
 use Prim.Native.Nat.{ℕ, min, max, _≤_}

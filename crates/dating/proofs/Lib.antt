@@ -1,8 +1,10 @@
 mod Days
 mod Idle
-mod Running
-mod Runs
+mod Kept
+pub mod Later
 pub mod OneReading
 pub mod Readings
 pub mod Renewals
-pub mod Tallies
+mod Running
+mod Runs
+mod Tallies

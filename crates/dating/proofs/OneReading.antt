@@ -14,7 +14,8 @@ use Rattle.dating.specs.inside.Run.{carry}
 use Rattle.dating.specs.inside.Tally.{runWith, countIn, countedIn, unsettled, unread, again}
 use Rattle.dating.specs.declared.run.Run.{Run}
 use Rattle.dating.specs.declared.Tally.{Tally}
-use Rattle.dating.proofs.Runs.{earlier-one, reaches-past, carry-by}
+use Rattle.dating.proofs.Kept.{earlier-one, reaches-past}
+use Rattle.dating.proofs.Runs.{carry-by}
 
 settled : (t : Tally) → (1 ≤ t .run .left → t .run .until + 1 < t .run .left) → unsettled t ≡ false
 unfolding unsettled

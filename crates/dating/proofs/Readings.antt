@@ -1,26 +1,25 @@
 -- Readings of the windows one after another: each lessens what is left out, and in the end the tally says what the windows do.
 use mathlib.Core.Path.{_≡_, refl, ap, sym, _∙_}
-use mathlib.Core.Bool.{Bool, true, false, cond, not, _&&_, _||_, true≢false}
+use mathlib.Core.Bool.{Bool, true, false, not}
 use mathlib.Core.List.{List, [], _∷_}
-use mathlib.Core.Logic.{_≢_, inl, inr}
 use Prim.Native.Nat.{ℕ, suc, _+_, _-_, _<_, _≤_}
 use native.Mathlib.Omega.{arith}
-use lib.Dec.{leb, ltb}
-use borrow.Author.Tests.{lt-ltb, le-ltb, le-leb, lt-leb, leb-true, leb-false, ltb-true, ltb-false}
+use borrow.Author.Tests.{le-leb, lt-leb}
 use Rattle.rules.proofs.Cases.{by-lt, by-eq}
-use Rattle.rules.proofs.Bools.{and-both, not-none}
+use Rattle.rules.proofs.Bools.{and-both}
 use Rattle.matching.specs.Matching.{Window}
 use Rattle.matching.proofs.Windows.{AllRight}
-use Rattle.dating.specs.Dating.{Decision, onOpen, onUntil, hasEnded, yetToBegin, those, runs, greatestLast, prolonged, dated}
+use Rattle.dating.specs.Dating.{hasEnded, yetToBegin, those, runs, greatestLast, prolonged, dated}
 use Rattle.dating.specs.Renewals.{someRuns, LastDay, Unending}
 use Rattle.dating.specs.inside.Tally.{countedIn, endless, unsettled, unread, again, decisionOf}
-use Rattle.dating.specs.declared.run.Run.{Run}
 use Rattle.dating.specs.declared.Tally.{Tally}
 use Rattle.dating.proofs.Days.{not-begun, not-after, none-runs}
 use Rattle.dating.proofs.Idle.{soonest, counted-over, counted-coming, kept, idle-kept}
+use Rattle.dating.proofs.Later.{later}
 use Rattle.dating.proofs.Renewals.{last-dated, open-dated}
-use Rattle.dating.proofs.Runs.{reaches-true, reaches-false, reaches-past, reaches-by, settled-by}
-use Rattle.dating.proofs.Tallies.{Every, later, Seen, members, whole}
+use Rattle.dating.proofs.Kept.{reaches-true, reaches-false, reaches-past, reaches-by}
+use Rattle.dating.proofs.Runs.{settled-by}
+use Rattle.dating.proofs.Tallies.{Every, Seen, members, whole}
 
 module _ (ws : List Window) (day : ℕ) where
   -- the run so far: its days are covered, it reaches the day before today at least, and from an open window's first day on all are covered

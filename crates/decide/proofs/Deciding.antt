@@ -8,20 +8,19 @@ use native.Mathlib.Omega.{arith}
 use lib.Dec.{eqb}
 use lib.ListN.{length}
 use borrow.Author.Tests.{eqb-false}
-use Rattle.rules.specs.Answers.{Answer, answer, refused, then, orElse}
+use Rattle.rules.specs.Answers.{Answer, answer, refused, orElse}
 use Rattle.rules.proofs.Answers.{same-answer, then-answer, then-refused}
 use Rattle.rules.proofs.Bools.{or-none}
 use Rattle.grant.specs.Grant.{Grant, grantsOf}
 use Rattle.grant.proofs.Listing.{grants-good}
 use Rattle.matching.specs.Matching.{Window, window, windows, appliesTo}
 use Rattle.matching.proofs.Windows.{AllRight, windows-right}
-use Rattle.dating.specs.Dating.{dated}
 use Rattle.decide.specs.Decision.{questionBad, decided}
 use Rattle.dating.specs.inside.Tally.{countedIn, unsettled, unread, again, decisionOf}
 use Rattle.decide.specs.inside.ListReading.{listRead}
 use Rattle.dating.specs.declared.Tally.{Tally}
+use Rattle.dating.proofs.Later.{later, later-most}
 use Rattle.dating.proofs.Readings.{Before, After, before-unread, unread-unsettled, before-again, reading, tally-dated}
-use Rattle.dating.proofs.Tallies.{later, later-most}
 
 past-15 : (feature l r day : ℕ) → questionBad feature l r day ≡ false → 1 ≤ day
 unfolding questionBad

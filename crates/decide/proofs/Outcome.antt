@@ -1,5 +1,5 @@
 -- What a reading of the grant list gives from a position on, with a tally of the grants before it.
-use mathlib.Core.Path.{_≡_, refl, ap, _∙_}
+use mathlib.Core.Path.{_≡_, refl, ap}
 use mathlib.Core.Bool.{true, false}
 use mathlib.Core.List.{List}
 use Prim.Native.Nat.{ℕ, _-_, _<_, _≤_}

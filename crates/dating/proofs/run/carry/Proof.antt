@@ -1,8 +1,7 @@
 -- `dating::run::carry` meets its contract.
-use mathlib.Core.Path.{refl, sym, _∙_}
+use mathlib.Core.Path.{sym, _∙_}
 use borrow.Author.Needs.{needs}
 use Rattle.dating.specs.inside.Run.{carry}
-use Rattle.dating.proofs.Runs.{same-run}
 use Rattle.dating.proofs.run.carry.Statement.{statement}
 use Rattle.dating.proofs.run.carry.Tie as tie
 
