@@ -131,7 +131,10 @@ uint64_t zintukor_order(const uint32_t *id, size_t id_length,
  * on each of which some grant that applies runs: a grant that begins on the day after another
  * ends continues it. ON_OPEN says that the run meets a grant without an end.
  * The list is read once where the grants that apply stand in the order of their first days, or
- * where none follows on; in other orders again, never more often than grants apply, and once.
+ * where those of them that begin after the day asked about begin later than the day after the
+ * last day of those that run on it. Else it may be read again, in all at most once more than
+ * there are grants that apply: a long list that follows on out of order takes time with the
+ * square of its length.
  */
 uint64_t zintukor_decide(uint32_t feature, uint32_t l, uint32_t r, uint32_t day,
                          const uint8_t *grants, size_t grants_length);

@@ -20,6 +20,10 @@ unfoldable pub soonest : ℕ → List Window → ℕ
 soonest day [] = day
 soonest day (w ∷ ws) = soonest (earlier day (w .first)) ws
 
+-- what is kept of them, as a decision
+abbrev pub kept : (over coming : ℕ) → Decision
+kept over coming = cond (ltb 0 over) (ended over) (cond (ltb 0 coming) (ahead coming) never)
+
 module _ (day : ℕ) where
   over-step : (known : ℕ) (w : Window) (ws : List Window) → greatestLast (overWith day known w) (those (hasEnded day) ws) ≡ greatestLast known (those (hasEnded day) (w ∷ ws))
   unfolding overWith greatestLast those hasEnded isOpen
@@ -69,9 +73,6 @@ module _ (day : ℕ) where
       let m : 1 ≤ min a (w .first) = omega (arith, h, f) in
       let i = soonest-least (min a (w .first)) ws m (all .1) in
       (rw n (i .0), i .1)
-
-  abbrev pub kept : (over coming : ℕ) → Decision
-  kept over coming = cond (ltb 0 over) (ended over) (cond (ltb 0 coming) (ahead coming) never)
 
   idle : (over coming : List Window) → All (hasEnded day) over → All (yetToBegin day) coming → kept (greatestLast 0 over) (soonest 0 coming) ≡ notOn over coming
   unfolding notOn isOpen greatestLast soonest hasEnded yetToBegin earlier

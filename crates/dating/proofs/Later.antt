@@ -14,7 +14,7 @@ unfoldable pub later : ℕ → List Window → ℕ
 later x [] = 0
 later x (w ∷ ws) = cond (ltb x (w .first)) (suc (later x ws)) (later x ws)
 
--- a window begins on day f: between the days before it and the days from it on there is one fewer
+-- a window begins on day f: fewer begin later than a day from f on than later than a day before f
 abbrev pub First : List Window → ℕ → Type 0
 First ws f = (x y : ℕ) → x < f → f ≤ y → later y ws < later x ws
 

@@ -1,7 +1,8 @@
 mod Days
+pub mod FewReadings
 mod Idle
 mod Kept
-pub mod Later
+mod Later
 pub mod OneReading
 pub mod Readings
 pub mod Renewals

@@ -9,7 +9,7 @@ use borrow.Author.Tests.{eq-eqb, ne-eqb}
 use Rattle.rules.proofs.Cases.{by-eq}
 use Rattle.matching.specs.Matching.{Window}
 use Rattle.dating.specs.Dating.{isOpen}
-use Rattle.dating.specs.Readings.{OneReading, InOrder, NoneFollows}
+use Rattle.dating.specs.Readings.{readings, Enough, InOrder, NoneFollows}
 use Rattle.dating.specs.inside.Run.{carry}
 use Rattle.dating.specs.inside.Tally.{runWith, countIn, countedIn, unsettled, unread, again}
 use Rattle.dating.specs.declared.run.Run.{Run}
@@ -64,8 +64,8 @@ module _ (day : ℕ) where
   ordered d t (w ∷ ws) i o = ordered (w .first) (countIn day t w) ws (i .1) (run-ordered d (t .run) w (i .0) o)
 
   -- windows that come in the order of their days are read once
-  pub one-in-order : (ws : List Window) → InOrder 0 ws → OneReading day ws
-  unfolding again unread
+  pub one-in-order : (ws : List Window) → InOrder 0 ws → Enough 1 day ws
+  unfolding readings again unread
   one-in-order ws i = settled _ (ordered 0 (again (unread day)) ws i (record { left = λ l. absurd (omega (arith, l)); stretch = λ s. absurd (omega (arith, s)) }))
 
 -- ## Where nothing follows on
@@ -129,8 +129,8 @@ module _ (day u : ℕ) where
   alone t (w ∷ ws) n o = alone (countIn day t w) ws (n .1) (run-alone day u (t .run) w (n .0) o)
 
   -- windows of which none follows on are read once
-  pub one-alone : (ws : List Window) → day ≤ u + 1 → NoneFollows day u ws → OneReading day ws
-  unfolding again unread
+  pub one-alone : (ws : List Window) → day ≤ u + 1 → NoneFollows day u ws → Enough 1 day ws
+  unfolding readings again unread
   one-alone ws h n =
       let o =
       alone (again (unread day)) ws n

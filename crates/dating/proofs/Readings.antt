@@ -100,7 +100,7 @@ module _ (ws : List Window) (day : ℕ) where
       let b = reaches-true (t .run .until) (t .open_from) e in
       by-lt (t .run .until) d (λ l. a .known .endlessly (b .0) d (omega (arith, b .1, l))) (λ l. a .known .sound d h l)
 
-  idly : (t : Tally) → After t → unsettled t ≡ false → endless t ≡ false → t .run .until < day → kept day (t .over) (t .coming) ≡ dated day ws
+  idly : (t : Tally) → After t → unsettled t ≡ false → endless t ≡ false → t .run .until < day → kept (t .over) (t .coming) ≡ dated day ws
   unfolding dated prolonged
   idly t a u e h = let i = a .idle h in rw (none-today t u e a h, i .0, i .1) (idle-kept day ws)
 

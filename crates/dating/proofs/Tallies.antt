@@ -1,4 +1,4 @@
--- What readings keep of the windows is what dating them asks.
+-- A reading, window by window: what is known of the run, and of each window that was counted in.
 use mathlib.Core.Path.{_≡_}
 use mathlib.Core.Bool.{true, or-true}
 use mathlib.Core.List.{List, [], _∷_}

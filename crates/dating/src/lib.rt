@@ -1,4 +1,5 @@
-// What windows say on a day (RULES.md, 10): they are counted in one after another, and then the tally is read. A function of the windows alone.
+// What windows say on a day (RULES.md, 10): they are counted in one after another, again as long as the
+// tally is unsettled, and then the tally is read. A function of the windows alone.
 mod run;
 
 ghost use mathlib.Core.Path.{_≡_};
@@ -17,7 +18,7 @@ use run::reaches;
 pub enum Decided {
     // On, and without an end.
     OnOpen,
-    // On, and the last day.
+    // On, and the last day of the unbroken run of days.
     OnUntil(u32),
     // Ended, and the last day.
     Ended(u32),

@@ -64,7 +64,8 @@ fn with_stretch(r: Run) -> Run
     r
 }
 
-// A window that does not follow on yet: it is the stretch, or lengthens it; of two that lie apart the earlier one is kept.
+// A window that does not follow on yet: it is the stretch, or lengthens it; of two that lie apart the earlier one is
+// kept, and of the other its first day, as left out.
 fn set_aside(r: Run, first: u32, last: u32) -> Run
     ensures { λ s. ⌜ s ≡ setAside r (record { first = first; last = last }) ⌝ }
 {

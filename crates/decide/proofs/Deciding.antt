@@ -1,12 +1,11 @@
 -- Readings of a grant list in bytes: what holds between two of them, what each lessens, and what is decided in the end.
-use mathlib.Core.Path.{_≡_, refl, ap, sym, subst, _∙_}
-use mathlib.Core.Bool.{Bool, true, false, cond, true≢false}
+use mathlib.Core.Path.{_≡_, ap, sym, subst, _∙_}
+use mathlib.Core.Bool.{true, false, true≢false}
 use mathlib.Core.List.{List, []}
 use mathlib.Core.Logic.{_⊎_, inl, inr}
-use Prim.Native.Nat.{ℕ, suc, _+_, _<_, _≤_}
+use Prim.Native.Nat.{ℕ, _<_, _≤_}
 use native.Mathlib.Omega.{arith}
 use lib.Dec.{eqb}
-use lib.ListN.{length}
 use borrow.Author.Tests.{eqb-false}
 use Rattle.rules.specs.Answers.{Answer, answer, refused, orElse}
 use Rattle.rules.proofs.Answers.{same-answer, then-answer, then-refused}
@@ -19,7 +18,7 @@ use Rattle.decide.specs.Decision.{questionBad, decided}
 use Rattle.dating.specs.inside.Tally.{countedIn, unsettled, unread, again, decisionOf}
 use Rattle.decide.specs.inside.ListReading.{listRead}
 use Rattle.dating.specs.declared.Tally.{Tally}
-use Rattle.dating.proofs.Later.{later, later-most}
+use Rattle.dating.proofs.FewReadings.{toCome, fewer-to-come}
 use Rattle.dating.proofs.Readings.{Before, After, before-unread, unread-unsettled, before-again, reading, tally-dated}
 
 past-15 : (feature l r day : ℕ) → questionBad feature l r day ≡ false → 1 ≤ day
@@ -41,18 +40,6 @@ module _ (feature l r day : ℕ) (bytes : List ℕ) where
     pub asked : questionBad feature l r day ≡ false
     pub made : (t ≡ unread day) ⊎ ((gs : List Grant) × (grantsOf bytes ≡ answer gs) × After applying day t)
 
-  -- at most so many readings are still to come: one, and one for each grant that applies and begins later than the day after the run's end
-  abbrev pub readings : Tally → ℕ
-  readings t = cond (unsettled t) (suc (later (t .run .until + 1) applying)) 0
-
-  -- so never more in all than applying grants and one
-  pub readings-most : (t : Tally) → readings t ≤ suc (length applying)
-  readings-most t = go (unsettled t)
-    where
-      go : (x : Bool) → cond x (suc (later (t .run .until + 1) applying)) 0 ≤ suc (length applying)
-      go true = omega (arith, later-most applying (t .run .until + 1))
-      go false = omega arith
-
   before : (t : Tally) → Between t → unsettled t ≡ true → Before applying day t
   before t b u = go (b .made)
     where
@@ -61,7 +48,7 @@ module _ (feature l r day : ℕ) (bytes : List ℕ) where
       go (inr a) = before-again applying day t (a .2) u
 
   -- a reading
-  pub read-on : (t s : Tally) → Between t → unsettled t ≡ true → listRead feature l r day bytes (again t) ≡ answer s → Between s × (readings s < readings t)
+  pub read-on : (t s : Tally) → Between t → unsettled t ≡ true → listRead feature l r day bytes (again t) ≡ answer s → Between s × (toCome applying s < toCome applying t)
   unfolding listRead
   read-on t s b u e =
       let a = then-answer (grantsOf bytes) _ e in
@@ -69,15 +56,7 @@ module _ (feature l r day : ℕ) (bytes : List ℕ) where
       let n : s ≡ countedIn day (again t) applying = sym (same-answer (a .2)) ∙ ap same (sym (a .1)) in
       let right : AllRight applying = rw (a .1) (windows-right (appliesTo feature l r) (a .0) (grants-good bytes (a .1))) in
       let k = reading applying day right t (before t b u) in
-      (record { asked = b .asked; made = inr (a .0, a .1, rw n (k .0)) }, rw (u, n) (less _ (k .1)))
-    where
-      less : (t′ : Tally) → (unsettled t′ ≡ true → later (t′ .run .until + 1) applying < later (t .run .until + 1) applying)
-          → readings t′ < suc (later (t .run .until + 1) applying)
-      less t′ f = go (unsettled t′) refl
-        where
-          go : (x : Bool) → unsettled t′ ≡ x → cond x (suc (later (t′ .run .until + 1) applying)) 0 < suc (later (t .run .until + 1) applying)
-          go true y = omega (arith, f y)
-          go false y = omega arith
+      (record { asked = b .asked; made = inr (a .0, a .1, rw n (k .0)) }, rw (u, n) (fewer-to-come applying t _ (k .1)))
 
   pub read-refused : (t : Tally) {n : ℕ} → questionBad feature l r day ≡ false → listRead feature l r day bytes t ≡ refused n → refused n ≡ decided feature l r day bytes
   unfolding listRead decided

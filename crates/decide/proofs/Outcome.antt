@@ -33,20 +33,20 @@ module _ (feature l r day : ℕ) (bytes : List ℕ) where
   pub outcome-applies : (at : ℕ) (t : Tally) {g : GrantRead} → at < length bytes → grantAt bytes at ≡ answer g → appliesTo feature l r (g .grant) ≡ true
       → outcome at t ≡ outcome (g .next) (countIn day t (window (g .grant)))
   unfolding outcome windows countedIn
-  outcome-applies at t {g} h e y = rw (grants-unfold bytes at h, e) (withStretch (grantsAt bytes (g .next)))
+  outcome-applies at t {g} h e y = rw (grants-unfold bytes at h, e) (joined (grantsAt bytes (g .next)))
     where
-      withStretch : (rest : Answer (List Grant)) → then (inFront g rest) (endsAs t) ≡ then rest (endsAs (countIn day t (window (g .grant))))
-      withStretch (answer gs) = rw y
-      withStretch (refused n) = refl
+      joined : (rest : Answer (List Grant)) → then (inFront g rest) (endsAs t) ≡ then rest (endsAs (countIn day t (window (g .grant))))
+      joined (answer gs) = rw y
+      joined (refused n) = refl
 
   pub outcome-other : (at : ℕ) (t : Tally) {g : GrantRead} → at < length bytes → grantAt bytes at ≡ answer g → appliesTo feature l r (g .grant) ≡ false
       → outcome at t ≡ outcome (g .next) t
   unfolding outcome windows countedIn
-  outcome-other at t {g} h e y = rw (grants-unfold bytes at h, e) (withStretch (grantsAt bytes (g .next)))
+  outcome-other at t {g} h e y = rw (grants-unfold bytes at h, e) (joined (grantsAt bytes (g .next)))
     where
-      withStretch : (rest : Answer (List Grant)) → then (inFront g rest) (endsAs t) ≡ then rest (endsAs t)
-      withStretch (answer gs) = rw y
-      withStretch (refused n) = refl
+      joined : (rest : Answer (List Grant)) → then (inFront g rest) (endsAs t) ≡ then rest (endsAs t)
+      joined (answer gs) = rw y
+      joined (refused n) = refl
 
   -- from the start it is the whole reading
   pub outcome-whole : (t : Tally) → outcome 0 t ≡ listRead feature l r day bytes t

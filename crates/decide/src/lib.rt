@@ -3,8 +3,7 @@ ghost use mathlib.Core.Path.{_≡_};
 ghost use Rattle.rules.specs.Lent.{old};
 ghost use Rattle.decide.specs.Decision.{questionBad, decided, asked};
 ghost use Rattle.dating.specs.Says.{decidedSays};
-ghost use Rattle.decide.specs.inside.ListReading.{readSays};
-ghost use Rattle.decide.specs.inside.ListReading.{listRead};
+ghost use Rattle.decide.specs.inside.ListReading.{listRead, readSays};
 use boxes::LValue;
 use boxes::RValue;
 use dating::Decided;
@@ -57,8 +56,8 @@ fn read_list(feature: u32, l: u32, r: u32, day: u32, grants: &[u8], before: Tall
 }
 
 // The decision on a feature for a pass (l, r) and a day: 15, then the whole list from left to right (1, 2, 14).
-// The list is read once, and again only as long as a window that was left out follows on from the run of days by now: never more often than
-// there are applying grants, and once more.
+// The list is read once, and again only as long as a window that was left out follows on from the run of days by now: in all at most once
+// more than there are applying grants.
 pub fn decide(feature: u32, l: u32, r: u32, day: u32, grants: &[u8]) -> Decided
     ensures { λ t. ⌜ decidedSays t ≡ decided feature l r day (old grants) ⌝ }
 {

@@ -156,7 +156,8 @@ cases =
     ∷ asked 7 1 1 21 (grant 7 2 2 10 20 ∷ []) (answer (ended 20))
     ∷ asked 7 1 1 10 (grant 7 2 2 10 0 ∷ []) (answer onOpen)
     ∷ asked 7 2 1 10 (grant 7 1 2 10 20 ∷ []) (answer never)
-    -- renewals that follow on, in any order; a gap of a day; an open one, met and just missed; another feature; a group that the pass is not under
+    -- renewals that follow on, in any order; a gap of a day; an open one, met and just missed; another feature; a group that the pass is not
+    -- under; a run to the greatest day; ended and ahead as before
     ∷ asked 7 1 1 15 (grant 7 2 2 10 20 ∷ grant 7 2 2 21 30 ∷ []) (answer (onUntil 30))
     ∷ asked 7 1 1 15 (grant 7 2 2 21 30 ∷ grant 7 2 2 10 20 ∷ []) (answer (onUntil 30))
     ∷ asked 7 1 1 15 (grant 7 2 2 31 40 ∷ grant 7 2 2 10 20 ∷ grant 7 2 2 21 30 ∷ []) (answer (onUntil 40))

@@ -25,7 +25,8 @@ reaches u d = not (eqb d 0) && followsFrom u d
 unfoldable pub withStretch : Run → Run
 withStretch r = cond (followsFrom (r .until) (r .from)) (run (max (r .until) (r .to)) 0 0 (r .left)) r
 
--- a window that does not follow on yet: it is the stretch, or lengthens it; of two that lie apart the earlier one is kept
+-- a window that does not follow on yet: it is the stretch, or lengthens it; of two that lie apart the earlier one is kept, and
+-- of the other its first day, as left out
 unfoldable pub setAside : Run → Window → Run
 setAside r w =
     cond (eqb (r .to) 0)

@@ -1,10 +1,11 @@
--- `decide::decide` meets its contract. The loop's measure says that there are no more readings than applying grants and one.
+-- `decide::decide` meets its contract. The loop's measure is the number of readings that may still come.
 use mathlib.Core.Path.{ap, sym, _∙_}
 use mathlib.Core.Logic.{inl}
 use borrow.Author.Needs.{needs}
 use Rattle.decide.specs.Decision.{decided}
 use Rattle.decide.specs.inside.ListReading.{readSays}
-use Rattle.decide.proofs.Deciding.{Between, readings, read-on, read-refused, read-through}
+use Rattle.dating.proofs.FewReadings.{toCome}
+use Rattle.decide.proofs.Deciding.{applying, Between, read-on, read-refused, read-through}
 use Rattle.decide.proofs.decide.Statement.{statement}
 use Rattle.decide.proofs.decide.Tie as tie
 
@@ -12,7 +13,7 @@ abbrev Inv-loop : tie.InvT-loop
 Inv-loop feature l r day grants t₀ t = Between feature l r day grants t
 
 abbrev μ-loop : tie.MeasureT-loop
-μ-loop feature l r day grants t₀ t = readings feature l r day grants t
+μ-loop feature l r day grants t₀ t = toCome (applying feature l r day grants) t
 
 returns : tie.Need-returns Inv-loop μ-loop
 unfolding decided
