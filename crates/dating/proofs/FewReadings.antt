@@ -7,10 +7,12 @@ use native.Mathlib.Omega.{arith}
 use lib.ListN.{length}
 use Rattle.matching.specs.Matching.{Window}
 use Rattle.matching.proofs.Windows.{AllRight}
+use Rattle.dating.specs.Dating.{yetToBegin}
 use Rattle.dating.specs.Readings.{readings, FewEnough}
 use Rattle.dating.specs.inside.Tally.{countedIn, unsettled, unread, again}
 use Rattle.dating.specs.declared.Tally.{Tally}
-use Rattle.dating.proofs.Later.{later, later-most}
+use Rattle.dating.proofs.Counting.{at-most-all}
+use Rattle.dating.proofs.Later.{later}
 use Rattle.dating.proofs.Readings.{Before, before-unread, before-again, reading}
 
 -- at most so many readings are still to come: one, and one for each window that begins later than the day after the run's end
@@ -29,7 +31,7 @@ module _ (ws : List Window) where
   most-to-come t = go (unsettled t)
     where
       go : (x : Bool) → cond x (suc (later (t .run .until + 1) ws)) 0 ≤ length ws + 1
-      go true = omega (arith, later-most ws (t .run .until + 1))
+      go true = omega (arith, at-most-all (yetToBegin (t .run .until + 1)) ws)
       go false = omega arith
 
   module _ (day : ℕ) (right : AllRight ws) where

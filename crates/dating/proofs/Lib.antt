@@ -1,3 +1,4 @@
+mod Counting
 mod Days
 pub mod FewReadings
 mod Idle

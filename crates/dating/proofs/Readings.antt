@@ -9,14 +9,14 @@ use Rattle.rules.proofs.Cases.{by-lt, by-eq}
 use Rattle.rules.proofs.Bools.{and-both}
 use Rattle.matching.specs.Matching.{Window}
 use Rattle.matching.proofs.Windows.{AllRight}
-use Rattle.dating.specs.Dating.{hasEnded, yetToBegin, those, runs, greatestLast, prolonged, dated}
+use Rattle.dating.specs.Dating.{hasEnded, yetToBegin, those, runs, greatestLast, dated}
 use Rattle.dating.specs.Renewals.{someRuns, LastDay, Unending}
 use Rattle.dating.specs.inside.Tally.{countedIn, endless, unsettled, unread, again, decisionOf}
 use Rattle.dating.specs.declared.Tally.{Tally}
-use Rattle.dating.proofs.Days.{not-begun, not-after, none-runs}
+use Rattle.dating.proofs.Days.{not-begun, not-after}
 use Rattle.dating.proofs.Idle.{soonest, counted-over, counted-coming, kept, idle-kept}
 use Rattle.dating.proofs.Later.{later}
-use Rattle.dating.proofs.Renewals.{last-dated, open-dated}
+use Rattle.dating.proofs.Renewals.{last-dated, open-dated, idle-dated}
 use Rattle.dating.proofs.Kept.{reaches-true, reaches-false, reaches-past, reaches-by}
 use Rattle.dating.proofs.Runs.{settled-by}
 use Rattle.dating.proofs.Tallies.{Every, Seen, members, whole}
@@ -91,8 +91,8 @@ module _ (ws : List Window) (day : ℕ) where
     last-day : After t → day ≤ t .run .until → LastDay ws day (t .run .until)
     last-day a h = record { begins = h; unbroken = a .known .sound; ends = all-beyond a ws (a .seen) }
 
-    none-today : After t → t .run .until < day → those (runs day) ws ≡ []
-    none-today a h = let e : day ≡ suc (t .run .until) = omega (arith, h, a .known .near) in none-runs day ws (ap (λ (d : ℕ). someRuns d ws) e ∙ all-beyond a ws (a .seen))
+    none-today : After t → t .run .until < day → someRuns day ws ≡ false
+    none-today a h = let e : day ≡ suc (t .run .until) = omega (arith, h, a .known .near) in ap (λ (d : ℕ). someRuns d ws) e ∙ all-beyond a ws (a .seen)
 
   unending : (t : Tally) → After t → endless t ≡ true → Unending ws day
   unfolding endless
@@ -101,8 +101,7 @@ module _ (ws : List Window) (day : ℕ) where
       by-lt (t .run .until) d (λ l. a .known .endlessly (b .0) d (omega (arith, b .1, l))) (λ l. a .known .sound d h l)
 
   idly : (t : Tally) → After t → unsettled t ≡ false → endless t ≡ false → t .run .until < day → kept (t .over) (t .coming) ≡ dated day ws
-  unfolding dated prolonged
-  idly t a u e h = let i = a .idle h in rw (none-today t u e a h, i .0, i .1) (idle-kept day ws)
+  idly t a u e h = let i = a .idle h in rw (i .0, i .1) (idle-kept day ws) ∙ sym (idle-dated ws day (none-today t u e a h))
 
   -- the tally says what the windows do
   pub tally-dated : (t : Tally) → After t → unsettled t ≡ false → decisionOf day t ≡ dated day ws

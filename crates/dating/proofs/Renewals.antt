@@ -12,28 +12,19 @@ use Rattle.rules.proofs.Bools.{or-none}
 use Rattle.matching.specs.Matching.{Window}
 use Rattle.dating.specs.Dating.{isOpen, runs, hasEnded, yetToBegin, those, someOpen, greatestLast, Decision, onOpen, onUntil, ended, ahead, never, notOn, prolonged, runFrom, dated}
 use Rattle.dating.specs.Renewals.{someRuns, Unbroken, LastDay, MeetsOpen, Unending, FollowsOn}
-use Rattle.dating.proofs.Days.{not-over, runs-on}
+use Rattle.dating.proofs.Counting.{count, howMany, count-least, no-more, at-most-all}
+use Rattle.dating.proofs.Days.{not-over, runs-on, none-runs}
 use Rattle.dating.proofs.Running.{Running, on, off, running, uncovered, endless-on, greatest-least, reached}
 
 -- ## The windows that remain
-
-unfoldable count : Bool → ℕ
-count true = 1
-count false = 0
-
-count-least : (a b : Bool) → (a ≡ true → b ≡ true) → count a ≤ count b
-unfolding count
-count-least false b f = omega arith
-count-least true b f = rw (f refl) (omega arith)
 
 -- it has not ended before day d
 unfoldable stays : ℕ → Window → Bool
 stays d w = isOpen w || leb d (w .last)
 
 -- how many have not ended before day d
-unfoldable remaining : ℕ → List Window → ℕ
-remaining d [] = 0
-remaining d (w ∷ ws) = count (stays d w) + remaining d ws
+abbrev remaining : ℕ → List Window → ℕ
+remaining d ws = howMany (stays d) ws
 
 stays-before : (d e : ℕ) (w : Window) → d ≤ e → stays e w ≡ true → stays d w ≡ true
 unfolding stays
@@ -44,17 +35,10 @@ stays-before d e w h = go (isOpen w)
     go false p = le-leb d (w .last) (omega (arith, leb-true e (w .last) p))
 
 remaining-before : (d e : ℕ) (ws : List Window) → d ≤ e → remaining e ws ≤ remaining d ws
-unfolding remaining
-remaining-before d e [] h = omega arith
-remaining-before d e (w ∷ ws) h = omega (arith, remaining-before d e ws h, count-least (stays e w) (stays d w) (stays-before d e w h))
-
-remaining-most : (d : ℕ) (ws : List Window) → remaining d ws ≤ length ws
-unfolding remaining count
-remaining-most d [] = omega arith
-remaining-most d (w ∷ ws) = omega (arith, remaining-most d ws, count-least (stays d w) true (λ _. refl))
+remaining-before d e ws h = no-more (stays e) (stays d) (λ w. stays-before d e w h) ws
 
 remaining-none : (d : ℕ) (ws : List Window) → remaining d ws ≤ 0 → someRuns d ws ≡ false
-unfolding remaining count someRuns runs stays
+unfolding howMany count someRuns runs stays
 remaining-none d [] h = refl
 remaining-none d (w ∷ ws) h = go (stays d w) refl h (remaining-none d ws)
   where
@@ -70,7 +54,7 @@ record Step (ws : List Window) (d g : ℕ) : Type 0 where
 
 -- where none of those that run on day d is open, they carry the run to the greatest of their last days
 step : (d : ℕ) {ws rs : List Window} {v : Window} → Running d ws (v ∷ rs) → someOpen (v ∷ rs) ≡ false → Step ws d (greatestLast (v .last) rs)
-unfolding remaining count stays someOpen someRuns
+unfolding howMany count stays someOpen someRuns
 step d {rs = rs} {v} (off {w} {ws} e rest) o =
     let s = step d rest o in
     let g = greatestLast (v .last) rs in
@@ -136,7 +120,7 @@ ends-dated : (ws : List Window) (t : ℕ) → Ends ws t (dated t ws)
 unfolding dated
 ends-dated ws t =
     carried ws t t _ (runFrom (length ws) ws) (omega arith) (λ x h k. absurd (omega arith)) (not-on ws t (those (hasEnded t) ws) (those (yetToBegin t) ws))
-    (λ g h all fewer. ends-from (length ws) ws t g h all (remaining-most (suc g) ws))
+    (λ g h all fewer. ends-from (length ws) ws t g h all (at-most-all (stays (suc g)) ws))
 
 -- ## Both ways
 
@@ -170,6 +154,10 @@ last-dated ws t u l =
 pub open-dated : (ws : List Window) (t : ℕ) → Unending ws t → dated t ws ≡ onOpen
 open-dated ws t all = by-on ws t (all t (omega arith)) (λ m. refl) (λ v m. both (suc v) ws (all (suc v) (omega arith)) (m .ends))
 
+pub idle-dated : (ws : List Window) (t : ℕ) → someRuns t ws ≡ false → dated t ws ≡ notOn (those (hasEnded t) ws) (those (yetToBegin t) ws)
+unfolding dated prolonged
+idle-dated ws t e = rw (none-runs t ws e)
+
 pub follows-on : (ws : List Window) (t : ℕ) → FollowsOn ws t
 follows-on ws t =
     let says : (x : Decision) → dated t ws ≡ x → Ends ws t x = λ x e. subst (Ends ws t) e (ends-dated ws t) in
@@ -177,4 +165,5 @@ follows-on ws t =
       until = λ u. (says (onUntil u), last-dated ws t u);
       meets = (says onOpen, λ m. open-dated ws t (unends ws t m));
       unending = (λ e. unends ws t (says onOpen e), open-dated ws t);
+      otherwise = idle-dated ws t;
     }

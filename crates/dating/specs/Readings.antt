@@ -1,4 +1,4 @@
--- How often the windows are read, which their order decides, and nothing else does.
+-- How often the windows are read. Their order matters for that alone.
 use Prim.Native.Nat.{ℕ, zero, suc, _+_, _<_, _≤_}
 use mathlib.Core.Path.{_≡_}
 use mathlib.Core.Bool.{false}

@@ -5,7 +5,7 @@ use mathlib.Core.Bool.{Bool, true, false, _||_}
 use mathlib.Core.List.{List, [], _∷_}
 use mathlib.Core.Logic.{_↔_}
 use Rattle.matching.specs.Matching.{Window}
-use Rattle.dating.specs.Dating.{runs, those, someOpen, onOpen, onUntil, dated}
+use Rattle.dating.specs.Dating.{runs, hasEnded, yetToBegin, those, someOpen, onOpen, onUntil, notOn, dated}
 
 -- some window runs on day d: the day is covered
 unfoldable pub someRuns : ℕ → List Window → Bool
@@ -34,8 +34,9 @@ abbrev pub Unending : List Window → ℕ → Type 0
 Unending ws t = (d : ℕ) → t ≤ d → someRuns d ws ≡ true
 
 -- "on" carries the last day of the unbroken run of days, beginning with day t, on each of which some window runs,
--- or "open" if that run meets an open window: exactly where it never ends
+-- or "open" if that run meets an open window: exactly where it never ends. Where no window runs on day t, ended, ahead and never stay
 pub record FollowsOn (ws : List Window) (t : ℕ) : Type 0 where
   pub until : (u : ℕ) → (dated t ws ≡ onUntil u) ↔ LastDay ws t u
   pub meets : (dated t ws ≡ onOpen) ↔ MeetsOpen ws t
   pub unending : (dated t ws ≡ onOpen) ↔ Unending ws t
+  pub otherwise : someRuns t ws ≡ false → dated t ws ≡ notOn (those (hasEnded t) ws) (those (yetToBegin t) ws)
