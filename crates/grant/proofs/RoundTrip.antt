@@ -12,7 +12,7 @@ use Rattle.number.specs.Number.{bytesOf}
 use Rattle.number.proofs.Laws.{number-count}
 use Rattle.number.proofs.Runs.{run-back}
 use Rattle.grant.specs.Grant.{Grant, GrantRead, grantBad, checkedGrant, grantAt, grantsOf, grantBytes, grantsBytes, someBad, checkedGrants}
-use Rattle.grant.proofs.Listing.{inFront, grantsAt, grants-unfold, grants-done, grants-all}
+use Rattle.grant.proofs.Listing.{inFront, grant-goes-on, grantsAt, grants-unfold, grants-done, grants-all}
 
 -- a grant of numbers that bytes can hold
 pub record Fits (g : Grant) : Type 0 where
@@ -55,19 +55,19 @@ grant-some : (g : Grant) → 0 < length (grantBytes g)
 unfolding grantBytes
 grant-some g = simp length-append (omega (arith, number-count (g .feature)))
 
-from-back : (gs : List Grant) (before : List ℕ) → AllFit gs → grantsAt (before ++ grantsBytes gs) (length before) ≡ checkedGrants gs
+from-back : (gs : List Grant) (before : List ℕ) → AllFit gs → grantsAt grantAt (before ++ grantsBytes gs) (length before) ≡ checkedGrants gs
 unfolding grantsBytes checkedGrants someBad
-from-back [] before f = grants-done (before ++ []) (length before) (simp append-nil (omega arith))
+from-back [] before f = grants-done grantAt (before ++ []) (length before) (simp append-nil (omega arith))
 from-back (g ∷ gs) before f =
     let one = grantBytes g in
     let rest = grantsBytes gs in
     let some : 0 < length one = grant-some g in
     let inside : length before < length (before ++ (one ++ rest)) = simp length-append (omega arith) in
     let others = simp (append-assoc, length-append) at (from-back gs (before ++ one) (f .1)) in
-    grants-unfold (before ++ (one ++ rest)) (length before) inside
-    ∙ ap (λ (a : Answer GrantRead). then a (λ (r : GrantRead). inFront r (grantsAt (before ++ (one ++ rest)) (r .next)))) (grant-back g before rest (f .0))
-    ∙ front-checked g gs (length before + length one) (grantsAt (before ++ (one ++ rest))) others
+    grants-unfold grantAt grant-goes-on (before ++ (one ++ rest)) (length before) inside
+    ∙ ap (λ (a : Answer GrantRead). then a (λ (r : GrantRead). inFront r (grantsAt grantAt (before ++ (one ++ rest)) (r .next)))) (grant-back g before rest (f .0))
+    ∙ front-checked g gs (length before + length one) (grantsAt grantAt (before ++ (one ++ rest))) others
 
 -- stored grants read back: the list, or 14 where one of them is bad
 pub grants-back : (gs : List Grant) → AllFit gs → grantsOf (grantsBytes gs) ≡ checkedGrants gs
-grants-back gs f = sym (grants-all (grantsBytes gs)) ∙ from-back gs [] f
+grants-back gs f = sym (grants-all grantAt (grantsBytes gs)) ∙ from-back gs [] f

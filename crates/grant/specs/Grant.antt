@@ -42,18 +42,25 @@ grantAt bytes at =
     then (numberAt bytes (first .next)) λ last.
     checkedGrant (grant (feature .value) (l .value) (r .value) (first .value) (last .value)) (last .next)
 
--- at most `most` grants from a position to the bytes' end
-unfoldable pub grantsFrom : ℕ → List ℕ → ℕ → Answer (List Grant)
-grantsFrom zero bytes at = answer []
-grantsFrom (suc most) bytes at =
+-- what reads one grant, at a position of the bytes
+abbrev pub GrantReader : Type 0
+GrantReader = List ℕ → ℕ → Answer GrantRead
+
+-- at most `most` grants from a position to the bytes' end, each read by one reader
+unfoldable pub grantsFrom : GrantReader → ℕ → List ℕ → ℕ → Answer (List Grant)
+grantsFrom reader zero bytes at = answer []
+grantsFrom reader (suc most) bytes at =
     cond (leb (length bytes) at)
     (answer [])
-    (then (grantAt bytes at) λ g. then (grantsFrom most bytes (g .next)) λ gs. answer (g .grant ∷ gs))
+    (then (reader bytes at) λ g. then (grantsFrom reader most bytes (g .next)) λ gs. answer (g .grant ∷ gs))
 
 -- the grant list is grants until its bytes end; it may be empty. Each grant has a byte at least, so that there are no more grants
 -- than bytes: the law `grants-unfold` says that the count never stops the reading
-unfoldable pub grantsOf : List ℕ → Answer (List Grant)
-grantsOf bytes = grantsFrom (length bytes) bytes 0
+unfoldable pub grantsBy : GrantReader → List ℕ → Answer (List Grant)
+grantsBy reader bytes = grantsFrom reader (length bytes) bytes 0
+
+abbrev pub grantsOf : List ℕ → Answer (List Grant)
+grantsOf bytes = grantsBy grantAt bytes
 
 -- the stored bytes of grants
 unfoldable pub grantBytes : Grant → List ℕ

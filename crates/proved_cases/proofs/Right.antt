@@ -11,7 +11,7 @@ use Rattle.request.specs.Entries.{someEntry}
 use Rattle.request.specs.Reading.{positiveAt, entryAt, treesBy, treeBy, notFull, treesAt, directionOf, requestOf}
 use Rattle.request.specs.Acceptance.{accepted}
 use Rattle.refine.specs.Refine.{refineRows, explodedRows, refined}
-use Rattle.grant.specs.Grant.{grantBad, checkedGrant, grantAt, grantsFrom, grantsOf, grantBytes, grantsBytes}
+use Rattle.grant.specs.Grant.{grantBad, checkedGrant, grantAt, grantsFrom, grantsBy, grantBytes, grantsBytes}
 use Rattle.matching.specs.Matching.{windows, appliesTo}
 use Rattle.dating.specs.Dating.{isOpen, runs, hasEnded, yetToBegin, those, someOpen, greatestLast, leastFirst, notOn, prolonged, runFrom, dated}
 use Rattle.decide.specs.Decision.{questionBad, decided}
@@ -30,7 +30,7 @@ use Rattle.proved_cases.specs.Table.{cases, besideRequest, uprightReques
 pub cases-right : map computed cases ≡ map stated cases
 unfolding cases besideRequest uprightRequest invertedRequest first9 second9 third9 fourth9 log9 lines9 rows9 calls9 replies9 requests9 numberAt bitGroupsAt lastByte
     followed addedTo bytesOf bitGroupsOf rowsFrom put someRow somePair lengthsBad countBad valueBad sameId rangesMeet apart soundRows checked freshRows
-    subgroup orderBy rowOf orderIn order grantBad checkedGrant grantAt grantsFrom grantsOf grantBytes grantsBytes windows appliesTo isOpen runs hasEnded
+    subgroup orderBy rowOf orderIn order grantBad checkedGrant grantAt grantsFrom grantsBy grantBytes grantsBytes windows appliesTo isOpen runs hasEnded
     yetToBegin those someOpen greatestLast leastFirst notOn prolonged runFrom dated questionBad decided positiveAt entryAt treesBy treeBy notFull treesAt directionOf requestOf someEntry
     accepted refineRows explodedRows refined engineReply engineAfter engineReplies engineEnd engineStart freshLedger acceptedBy isOther staysBelow
     belowEntries aboveEntries itself byTrees orderAfter replace explodedLedger ledgerRefined ledgerOrder ledgerReply ledgerAfter ledgerReplies ledgerEnd
