@@ -6,9 +6,13 @@ use mathlib.Core.List.{List, [], _∷_}
 use lib.Dec.{eqb, leb}
 use Rattle.grant.specs.Grant.{Grant}
 
--- A grant applies to a pass (l, r) and feature when the features are equal and pass l ≤ grant l and pass r ≤ grant r
+-- a grant covers a pass (l, r), whatever its feature, when pass l ≤ grant l and pass r ≤ grant r
+abbrev pub covers : (l r : ℕ) → Grant → Bool
+covers l r g = leb l (g .l) && leb r (g .r)
+
+-- a grant applies to a pass (l, r) and feature when the features are equal and it covers the pass
 unfoldable pub appliesTo : (feature l r : ℕ) → Grant → Bool
-appliesTo feature l r g = eqb (g .feature) feature && (leb l (g .l) && leb r (g .r))
+appliesTo feature l r g = eqb (g .feature) feature && covers l r g
 
 -- the days of a grant
 pub record Window : Type 0 where

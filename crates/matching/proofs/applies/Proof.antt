@@ -10,4 +10,4 @@ applies-spec =
     tie.close
     (tie.spec
     (λ c κs. search needs)
-    (λ c. rw (c .covered .ensures)))
+    (λ c. rw (c .covers .ensures)))
