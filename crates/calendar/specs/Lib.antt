@@ -1,0 +1,3 @@
+pub mod Calendar
+pub mod Years
+pub mod Promise
