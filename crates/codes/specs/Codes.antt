@@ -3,7 +3,7 @@ use Prim.Native.Nat.{ℕ, _+_, _*_}
 use Rattle.rules.specs.Answers.{Answer, answer, refused}
 use Rattle.rules.specs.Limits.{greatest}
 use Rattle.order.specs.Order.{Order, same, first, second, incomparable}
-use Rattle.dating.specs.Dating.{Decision, onOpen, onUntil, ended, ahead, never}
+use Rattle.renewals.specs.Dating.{Decision, onOpen, onUntil, ended, ahead, never}
 
 -- the kind counts for 4294967296, one more than the greatest number
 abbrev pub encoded : ℕ → ℕ → ℕ

@@ -7,12 +7,12 @@ use native.Mathlib.Omega.{arith}
 use lib.ListN.{length}
 use Rattle.matching.specs.Matching.{Window}
 use Rattle.matching.proofs.Windows.{AllRight}
-use Rattle.dating.specs.Dating.{yetToBegin}
+use Rattle.renewals.specs.Dating.{yetToBegin}
+use Rattle.renewals.proofs.Counting.{at-most-all}
+use Rattle.renewals.proofs.Later.{later}
 use Rattle.dating.specs.Readings.{readings, FewEnough}
 use Rattle.dating.specs.inside.Tally.{countedIn, unsettled, unread, again}
 use Rattle.dating.specs.declared.Tally.{Tally}
-use Rattle.dating.proofs.Counting.{at-most-all}
-use Rattle.dating.proofs.Later.{later}
 use Rattle.dating.proofs.Readings.{Before, before-unread, before-again, reading}
 
 -- at most so many readings are still to come: one, and one for each window that begins later than the day after the run's end

@@ -9,11 +9,11 @@ use borrow.Author.Tests.{eq-eqb, ne-eqb, lt-ltb, le-ltb, eqb-false, ltb-true, no
 use Rattle.rules.proofs.Cases.{by-lt, by-eq}
 use Rattle.rules.proofs.Bools.{and-both}
 use Rattle.matching.specs.Matching.{Window}
-use Rattle.dating.specs.Dating.{Decision, ended, ahead, never, isOpen, hasEnded, yetToBegin, those, greatestLast, leastFirst, notOn}
+use Rattle.renewals.specs.Dating.{Decision, ended, ahead, never, isOpen, hasEnded, yetToBegin, those, greatestLast, leastFirst, notOn}
+use Rattle.renewals.proofs.Running.{greatest-least}
 use Rattle.dating.specs.inside.Run.{earlier}
 use Rattle.dating.specs.inside.Tally.{overWith, comingWith, countIn, countedIn}
 use Rattle.dating.specs.declared.Tally.{Tally}
-use Rattle.dating.proofs.Running.{greatest-least}
 
 -- the least of a day and the first days of windows, where 0 is none yet
 unfoldable pub soonest : ℕ → List Window → ℕ

@@ -8,7 +8,7 @@ use native.Mathlib.Omega.{arith}
 use borrow.Author.Tests.{eq-eqb, ne-eqb}
 use Rattle.rules.proofs.Cases.{by-eq}
 use Rattle.matching.specs.Matching.{Window}
-use Rattle.dating.specs.Dating.{isOpen}
+use Rattle.renewals.specs.Dating.{isOpen}
 use Rattle.dating.specs.Readings.{readings, Enough, InOrder, NoneFollows}
 use Rattle.dating.specs.inside.Run.{carry}
 use Rattle.dating.specs.inside.Tally.{runWith, countIn, countedIn, unsettled, unread, again}

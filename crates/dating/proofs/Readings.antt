@@ -9,14 +9,14 @@ use Rattle.rules.proofs.Cases.{by-lt, by-eq}
 use Rattle.rules.proofs.Bools.{and-both}
 use Rattle.matching.specs.Matching.{Window}
 use Rattle.matching.proofs.Windows.{AllRight}
-use Rattle.dating.specs.Dating.{hasEnded, yetToBegin, those, runs, greatestLast, dated}
-use Rattle.dating.specs.Renewals.{someRuns, LastDay, Unending}
+use Rattle.renewals.specs.Dating.{hasEnded, yetToBegin, those, runs, greatestLast, dated}
+use Rattle.renewals.specs.Renewals.{someRuns, LastDay, Unending}
+use Rattle.renewals.proofs.Days.{not-begun, not-after}
+use Rattle.renewals.proofs.Later.{later}
+use Rattle.renewals.proofs.Renewals.{last-dated, open-dated, idle-dated}
 use Rattle.dating.specs.inside.Tally.{countedIn, endless, unsettled, unread, again, decisionOf}
 use Rattle.dating.specs.declared.Tally.{Tally}
-use Rattle.dating.proofs.Days.{not-begun, not-after}
 use Rattle.dating.proofs.Idle.{soonest, counted-over, counted-coming, kept, idle-kept}
-use Rattle.dating.proofs.Later.{later}
-use Rattle.dating.proofs.Renewals.{last-dated, open-dated, idle-dated}
 use Rattle.dating.proofs.Kept.{reaches-true, reaches-false, reaches-past, reaches-by}
 use Rattle.dating.proofs.Runs.{settled-by}
 use Rattle.dating.proofs.Tallies.{Every, Seen, members, whole}

@@ -9,15 +9,15 @@ use borrow.Author.Tests.{eq-eqb, ne-eqb}
 use Rattle.rules.proofs.Cases.{by-eq}
 use Rattle.matching.specs.Matching.{Window}
 use Rattle.matching.proofs.Windows.{Right, AllRight}
-use Rattle.dating.specs.Dating.{isOpen, runs}
-use Rattle.dating.specs.Renewals.{someRuns}
+use Rattle.renewals.specs.Dating.{isOpen, runs}
+use Rattle.renewals.specs.Renewals.{someRuns}
+use Rattle.renewals.proofs.Days.{runs-from, runs-open}
+use Rattle.renewals.proofs.Later.{First, first-here, first-there}
 use Rattle.dating.specs.inside.Run.{earlier, carry}
 use Rattle.dating.specs.inside.Tally.{tally, runWith, openWith, countIn, countedIn}
 use Rattle.dating.specs.declared.run.Run.{Run}
 use Rattle.dating.specs.declared.Tally.{Tally}
-use Rattle.dating.proofs.Days.{runs-from, runs-open}
 use Rattle.dating.proofs.Kept.{earlier-one, earlier-least}
-use Rattle.dating.proofs.Later.{First, first-here, first-there}
 use Rattle.dating.proofs.Runs.{Settled, Closed, Fair, carry-fair, carry-settled}
 
 pub same-tally : {r r′ : Run} {a a′ b b′ d d′ : ℕ} → r ≡ r′ → a ≡ a′ → b ≡ b′ → d ≡ d′ → tally r a b d ≡ tally r′ a′ b′ d′

@@ -1,5 +1,3 @@
-pub mod Dating
 pub mod Readings
-pub mod Renewals
 pub mod Says
 pub mod inside

@@ -1,7 +1,7 @@
 -- What each case of the answer says: the values, or the number of the refusal (RULES.md, 12).
 use Rattle.rules.specs.Answers.{Answer, answer, refused}
 use Rattle.rules.specs.Refusals.{refusalNumber}
-use Rattle.dating.specs.Dating.{Decision, onOpen, onUntil, ended, ahead, never}
+use Rattle.renewals.specs.Dating.{Decision, onOpen, onUntil, ended, ahead, never}
 use Rattle.dating.specs.declared.Decided.{Decided}
 use Rattle.dating.specs.declared.Decided.the-variants as decided
 

@@ -7,7 +7,7 @@ use Rattle.rules.specs.Answers.{answer, refused, then}
 use Rattle.grant.specs.Grant.{Grant, grantsBytes, checkedGrants}
 use Rattle.grant.proofs.RoundTrip.{AllFit, grants-back}
 use Rattle.matching.specs.Matching.{window, windows, appliesTo}
-use Rattle.dating.specs.Dating.{dated}
+use Rattle.renewals.specs.Dating.{dated}
 use Rattle.decide.specs.Decision.{questionBad, decided}
 
 -- 15, then 14, then what the windows of those that apply say

@@ -9,7 +9,7 @@ use Rattle.rules.specs.Answers.{Answer, answer, refused, then}
 use Rattle.number.specs.Number.{numberAt}
 use Rattle.grant.specs.Grant.{grantsOf}
 use Rattle.matching.specs.Matching.{window, windows, appliesTo}
-use Rattle.dating.specs.Dating.{Decision, dated}
+use Rattle.renewals.specs.Dating.{Decision, dated}
 
 -- 15: feature, pass l or r, or day is 0
 unfoldable pub questionBad : (feature l r day : ℕ) → Bool

@@ -8,9 +8,9 @@ use Rattle.rules.specs.Answers.{Answer, answer, refused}
 use Rattle.rules.specs.Buffers.{written, after}
 use Rattle.rules.proofs.Answers.{never-refused}
 use Rattle.rules.proofs.Buffers.{written-all, written-room, after-same, after-start}
+use Rattle.renewals.specs.Dating.{Decision, onOpen, onUntil, ended, ahead, never}
 use Rattle.dating.specs.Says.{decidedSays}
 use Rattle.dating.specs.declared.Decided.{Decided}
-use Rattle.dating.specs.Dating.{Decision, onOpen, onUntil, ended, ahead, never}
 use Rattle.lines.specs.Lines.{fieldText}
 use Rattle.lines.proofs.Laws.{field-most}
 use Rattle.decision_line.specs.DecisionText.{decisionText}

@@ -3,7 +3,7 @@
 use Prim.Native.Nat.{ℕ}
 use mathlib.Core.List.{List, _++_}
 use Rattle.rules.specs.Answers.{Answer, answer, refused}
-use Rattle.dating.specs.Dating.{Decision, onOpen, onUntil, ended, ahead, never}
+use Rattle.renewals.specs.Dating.{Decision, onOpen, onUntil, ended, ahead, never}
 use Rattle.lines.specs.Lines.{letters, fieldText}
 
 unfoldable pub decisionText : Answer Decision → List ℕ

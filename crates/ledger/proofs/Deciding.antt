@@ -10,7 +10,7 @@ use Rattle.rules.specs.Answers.{answer}
 use Rattle.rules.proofs.Answers.{then-cond}
 use Rattle.grant.specs.Grant.{Grant, grant, grantBad, grantsBytes, someBad, checkedGrants}
 use Rattle.matching.specs.Matching.{window, windows, appliesTo}
-use Rattle.dating.specs.Dating.{dated}
+use Rattle.renewals.specs.Dating.{dated}
 use Rattle.decide.specs.Decision.{questionBad, decided}
 use Rattle.grant.proofs.RoundTrip.{Fits, AllFit}
 use Rattle.decide.proofs.RoundTrip.{decided-back}

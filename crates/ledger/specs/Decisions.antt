@@ -6,7 +6,7 @@ use lib.Dec.{eqb, ltb}
 use Rattle.rules.specs.Answers.{Answer, answer, refused}
 use Rattle.grant.specs.Grant.{Grant}
 use Rattle.matching.specs.Matching.{Window, windows}
-use Rattle.dating.specs.Dating.{Decision, dated}
+use Rattle.renewals.specs.Dating.{Decision, dated}
 use Rattle.ledger.specs.Ledger.{Ledger}
 
 -- a feature granted to a group, with its days

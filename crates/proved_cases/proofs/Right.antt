@@ -13,7 +13,7 @@ use Rattle.request.specs.Acceptance.{accepted}
 use Rattle.refine.specs.Refine.{refineRows, explodedRows, refined}
 use Rattle.grant.specs.Grant.{grantBad, checkedGrant, grantAt, grantsFrom, grantsBy, grantBytes, grantsBytes}
 use Rattle.matching.specs.Matching.{windows, appliesTo}
-use Rattle.dating.specs.Dating.{isOpen, runs, hasEnded, yetToBegin, those, someOpen, greatestLast, leastFirst, notOn, prolonged, runFrom, dated}
+use Rattle.renewals.specs.Dating.{isOpen, runs, hasEnded, yetToBegin, those, someOpen, greatestLast, leastFirst, notOn, prolonged, runFrom, dated}
 use Rattle.decide.specs.Decision.{questionBad, decided}
 use Rattle.ledger.specs.Ledger.{freshLedger, acceptedBy, isOther, staysBelow, belowEntries, aboveEntries, itself, byTrees, orderAfter, replace, explodedLedger, ledgerRefined, ledgerOrder}
 use Rattle.ledger.specs.Calls.{engineReply, engineAfter, engineReplies, engineEnd, engineStart, ledgerReply, ledgerAfter, ledgerReplies, ledgerEnd, explodes, explodedIn}

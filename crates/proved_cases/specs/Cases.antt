@@ -11,7 +11,7 @@ use Rattle.request.specs.Entries.{quotaOf}
 use Rattle.table.specs.Columns.{Row, rows, lOf, rOf, counted, afterwards}
 use Rattle.fresh.specs.Fresh.{freshRows}
 use Rattle.grant.specs.Grant.{Grant, grant, grantsBytes}
-use Rattle.dating.specs.Dating.{Decision}
+use Rattle.renewals.specs.Dating.{Decision}
 use Rattle.decide.specs.Decision.{decided}
 use Rattle.decision_line.specs.DecisionText.{decisionText}
 use Rattle.ledger.specs.Ledger.{Ledger, freshLedger, afreshL, afreshR}

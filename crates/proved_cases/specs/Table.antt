@@ -7,7 +7,7 @@ use Rattle.rules.specs.Answers.{answer, refused}
 use Rattle.table.specs.Columns.{Row}
 use Rattle.order.specs.Order.{Order, same, first, second, incomparable}
 use Rattle.grant.specs.Grant.{grant}
-use Rattle.dating.specs.Dating.{onOpen, onUntil, ended, ahead, never}
+use Rattle.renewals.specs.Dating.{onOpen, onUntil, ended, ahead, never}
 use Rattle.ledger.specs.Calls.{Call, refine, order, Reply, refineSays, orderSays}
 use Rattle.proved_cases.specs.Cases.{Case, NotedGrant, Note, stored, made, grown, logged, asked, answered, noted, row, stream}
 

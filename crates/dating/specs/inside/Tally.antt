@@ -4,7 +4,7 @@ use mathlib.Core.Bool.{Bool, cond, not, _&&_}
 use mathlib.Core.List.{List, [], _∷_}
 use lib.Dec.{leb, ltb}
 use Rattle.matching.specs.Matching.{Window}
-use Rattle.dating.specs.Dating.{isOpen, Decision, onOpen, onUntil, ended, ahead, never}
+use Rattle.renewals.specs.Dating.{isOpen, Decision, onOpen, onUntil, ended, ahead, never}
 use Rattle.dating.specs.inside.Run.{run, earlier, reaches, carry}
 use Rattle.dating.specs.declared.run.Run.{Run}
 use Rattle.dating.specs.declared.Tally.{Tally}

@@ -6,8 +6,8 @@ use Prim.Native.Nat.{ℕ, _<_, _≤_}
 use native.Mathlib.Omega.{arith}
 use borrow.Author.Tests.{lt-ltb, le-ltb, ltb-true}
 use Rattle.matching.specs.Matching.{Window}
-use Rattle.dating.specs.Dating.{yetToBegin}
-use Rattle.dating.proofs.Counting.{count, howMany, count-least, no-more}
+use Rattle.renewals.specs.Dating.{yetToBegin}
+use Rattle.renewals.proofs.Counting.{count, howMany, count-least, no-more}
 
 abbrev pub later : ℕ → List Window → ℕ
 later x ws = howMany (yetToBegin x) ws

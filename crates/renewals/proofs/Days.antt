@@ -9,8 +9,8 @@ use borrow.Author.Tests.{eq-eqb, ne-eqb, eqb-false, le-leb, lt-leb, leb-true}
 use Rattle.rules.proofs.Cases.{by-lt}
 use Rattle.rules.proofs.Bools.{or-none, and-both}
 use Rattle.matching.specs.Matching.{Window}
-use Rattle.dating.specs.Dating.{isOpen, runs, those}
-use Rattle.dating.specs.Renewals.{someRuns}
+use Rattle.renewals.specs.Dating.{isOpen, runs, those}
+use Rattle.renewals.specs.Renewals.{someRuns}
 
 pub runs-from : (d : ℕ) (w : Window) → w .first ≤ d → (w .last ≡ 0 → ⊥) → d ≤ w .last → runs d w ≡ true
 unfolding runs isOpen

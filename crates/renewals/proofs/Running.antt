@@ -8,9 +8,9 @@ use borrow.Author.Tests.{eqb-true}
 use Rattle.rules.proofs.Cases.{by-lt}
 use Rattle.rules.proofs.Bools.{or-none}
 use Rattle.matching.specs.Matching.{Window}
-use Rattle.dating.specs.Dating.{isOpen, runs, those, someOpen, greatestLast}
-use Rattle.dating.specs.Renewals.{someRuns, Unending}
-use Rattle.dating.proofs.Days.{begun, runs-open, runs-on}
+use Rattle.renewals.specs.Dating.{isOpen, runs, those, someOpen, greatestLast}
+use Rattle.renewals.specs.Renewals.{someRuns, Unending}
+use Rattle.renewals.proofs.Days.{begun, runs-open, runs-on}
 
 -- the second list is those of the first that run on day d
 pub data Running (d : ℕ) : List Window → List Window → Type 0 where

@@ -10,11 +10,11 @@ use borrow.Author.Tests.{leb-true, le-leb, lt-leb}
 use Rattle.rules.proofs.Cases.{by-lt}
 use Rattle.rules.proofs.Bools.{or-none}
 use Rattle.matching.specs.Matching.{Window}
-use Rattle.dating.specs.Dating.{isOpen, runs, hasEnded, yetToBegin, those, someOpen, greatestLast, Decision, onOpen, onUntil, ended, ahead, never, notOn, prolonged, runFrom, dated}
-use Rattle.dating.specs.Renewals.{someRuns, Unbroken, LastDay, MeetsOpen, Unending, FollowsOn}
-use Rattle.dating.proofs.Counting.{count, howMany, count-least, no-more, at-most-all}
-use Rattle.dating.proofs.Days.{not-over, runs-on, none-runs}
-use Rattle.dating.proofs.Running.{Running, on, off, running, uncovered, endless-on, greatest-least, reached}
+use Rattle.renewals.specs.Dating.{isOpen, runs, hasEnded, yetToBegin, those, someOpen, greatestLast, Decision, onOpen, onUntil, ended, ahead, never, notOn, prolonged, runFrom, dated}
+use Rattle.renewals.specs.Renewals.{someRuns, Unbroken, LastDay, MeetsOpen, Unending, FollowsOn}
+use Rattle.renewals.proofs.Counting.{count, howMany, count-least, no-more, at-most-all}
+use Rattle.renewals.proofs.Days.{not-over, runs-on, none-runs}
+use Rattle.renewals.proofs.Running.{Running, on, off, running, uncovered, endless-on, greatest-least, reached}
 
 -- ## The windows that remain
 

@@ -5,7 +5,7 @@ use mathlib.Core.Bool.{Bool, true, false, _||_}
 use mathlib.Core.List.{List, [], _∷_}
 use mathlib.Core.Logic.{_↔_}
 use Rattle.matching.specs.Matching.{Window}
-use Rattle.dating.specs.Dating.{runs, hasEnded, yetToBegin, those, someOpen, onOpen, onUntil, notOn, dated}
+use Rattle.renewals.specs.Dating.{runs, hasEnded, yetToBegin, those, someOpen, onOpen, onUntil, notOn, dated}
 
 -- some window runs on day d: the day is covered
 unfoldable pub someRuns : ℕ → List Window → Bool

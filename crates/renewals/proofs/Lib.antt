@@ -1,0 +1,5 @@
+pub mod Counting
+pub mod Days
+pub mod Later
+pub mod Renewals
+pub mod Running
