@@ -4,7 +4,8 @@ use Prim.Native.Nat.{ℕ}
 use mathlib.Core.List.{List, _++_}
 use Rattle.rules.specs.Answers.{Answer, answer, refused}
 use Rattle.renewals.specs.Dating.{Decision, onOpen, onUntil, ended, ahead, never}
-use Rattle.lines.specs.Lines.{letters, fieldText}
+use Rattle.text.specs.Letters.{letters}
+use Rattle.lines.specs.Lines.{fieldText}
 
 unfoldable pub decisionText : Answer Decision → List ℕ
 decisionText (answer onOpen) = letters "on open\n"

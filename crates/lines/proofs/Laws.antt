@@ -22,13 +22,6 @@ use Rattle.table.proofs.Lengths.{lengths-good, count-good}
 use Rattle.table.proofs.Rows.{rows-more, rows-length}
 use Rattle.lines.specs.Lines.{fieldText, lineText, headingText, rowText, rowsText, tableText, columnsBad, tableAnswer, tableBuffer}
 
--- the test of the room, by what is left after a position
-pub short-same : (room at bytes : ℕ) → at ≤ room → ltb (room - at) bytes ≡ ltb room (at + bytes)
-short-same room at bytes h =
-    by-lt room (at + bytes)
-    (λ k. lt-ltb (room - at) bytes (omega arith) ∙ sym (lt-ltb room (at + bytes) k))
-    (λ k. le-ltb (room - at) bytes (omega arith) ∙ sym (le-ltb room (at + bytes) k))
-
 -- ## A number and the byte after it
 
 pub field-count : (n last : ℕ) → length (fieldText n last) ≡ length (decimal n) + 1

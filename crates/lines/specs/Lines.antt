@@ -1,20 +1,14 @@
 -- What `grow` prints (RULES.md, 14.1): one space between fields, a line feed after every line.
 use Prim.Native.Nat.{ℕ}
-use Prim.Native.Char.{code}
-use Prim.Native.String.{String, [] as []ᵀ, _∷_ as _∷ᵀ_}
 use mathlib.Core.Bool.{Bool, cond, _||_}
 use mathlib.Core.List.{List, [], _∷_, _++_, flatMap}
 use lib.ListN.{length}
 use Rattle.rules.specs.Answers.{Answer, answer, refused}
 use Rattle.rules.specs.Buffers.{written, after}
 use Rattle.text.specs.Decimal.{decimal}
+use Rattle.text.specs.Letters.{letters}
 use Rattle.table.specs.Columns.{Row, Columns, rows}
 use Rattle.table.specs.Check.{lengthsBad, countBad}
-
--- the bytes of a text's characters
-abbrev pub letters : String → List ℕ
-letters []ᵀ = []
-letters (c ∷ᵀ s) = code c ∷ letters s
 
 -- a number, and the byte after it: 32, a space, or 10, a line feed
 unfoldable pub fieldText : ℕ → ℕ → List ℕ

@@ -8,10 +8,10 @@ ghost use Rattle.lines.specs.Lines.{fieldText, lineText};
 ghost use Rattle.lines.specs.Says.{lineSays};
 use crate::Line;
 use crate::fields::field_length;
-use crate::fields::too_short;
 use crate::fields::write_field;
 use number::Written;
 use rules::Refusal;
+use text::too_short;
 use text::write_bytes;
 
 const LINE_FEED: u8 = 10;

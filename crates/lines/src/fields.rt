@@ -1,8 +1,6 @@
 // A number and the byte after it.
 ghost use mathlib.Core.Path.{_≡_};
-ghost use mathlib.Core.Bool.{true};
 ghost use Prim.Native.Nat.{_+_, _≤_};
-ghost use lib.Dec.{ltb};
 ghost use lib.ListN.{length};
 ghost use Rattle.rules.specs.Buffers.{after};
 ghost use Rattle.rules.specs.Lent.{old, new};
@@ -10,16 +8,6 @@ ghost use Rattle.text.specs.Decimal.{decimal};
 ghost use Rattle.lines.specs.Lines.{fieldText};
 use text::decimal_length;
 use text::write_decimal;
-
-// A buffer of this length is too short for so many bytes from a position on.
-pub(crate) fn too_short(length: usize, at: usize, bytes: usize) -> bool
-    ensures { λ t. ⌜ t ≡ ltb length (at + bytes) ⌝ }
-{
-    if length < at {
-        return true;
-    }
-    length - at < bytes
-}
 
 // How many bytes a number and the byte after it have, 2 to 11.
 pub(crate) fn field_length(n: u32) -> usize

@@ -11,12 +11,12 @@ ghost use Rattle.table.specs.inside.Held.{Holds};
 ghost use Rattle.table.specs.Lent.{oldColumns, lentColumns};
 ghost use Rattle.lines.specs.Lines.{rowText, rowsText, tableAnswer, tableBuffer};
 use crate::fields::field_length;
-use crate::fields::too_short;
 use crate::fields::write_field;
 use number::Written;
 use rules::Refusal;
 use table::count_bad;
 use table::lengths_bad;
+use text::too_short;
 use text::write_bytes;
 
 const SPACE: u8 = 32;

@@ -2,7 +2,7 @@
 use Prim.Native.Nat.{ℕ}
 use Prim.Native.String.{String}
 use mathlib.Core.List.{List, [], _∷_, _++_}
-use Rattle.lines.specs.Lines.{letters}
+use Rattle.text.specs.Letters.{letters}
 
 -- a line feed after every line
 abbrev pub lines : List String → List ℕ

@@ -1,8 +1,9 @@
--- The digits of a number: one, or those of its tenth and one more. A decimal number has 1 to 10 bytes.
-use mathlib.Core.Path.{_≡_, refl, ap, _∙_}
+-- The digits of a number: one, or those of its tenth and one more. A decimal number has 1 to 10 bytes. The test of the room.
+use mathlib.Core.Path.{_≡_, refl, ap, sym, _∙_}
 use mathlib.Core.List.{[], _∷_, _++_}
-use Prim.Native.Nat.{ℕ, zero, suc, _+_, _*_, _/_, _%_, _<_, _≤_}
+use Prim.Native.Nat.{ℕ, zero, suc, _+_, _*_, _-_, _/_, _%_, _<_, _≤_}
 use native.Mathlib.Omega.{arith}
+use lib.Dec.{ltb}
 use lib.ListN.{length, length-append}
 use borrow.Author.Tests.{lt-ltb, le-ltb}
 use Rattle.rules.proofs.Cases.{by-lt}
@@ -40,3 +41,10 @@ digits-count (suc k) n =
 pub decimal-count : (n : ℕ) → (1 ≤ length (decimal n)) × (length (decimal n) ≤ 10)
 unfolding decimal
 decimal-count n = digits-count 9 n
+
+-- the test of the room, by what is left after a position
+pub short-same : (room at bytes : ℕ) → at ≤ room → ltb (room - at) bytes ≡ ltb room (at + bytes)
+short-same room at bytes h =
+    by-lt room (at + bytes)
+    (λ k. lt-ltb (room - at) bytes (omega arith) ∙ sym (lt-ltb room (at + bytes) k))
+    (λ k. le-ltb (room - at) bytes (omega arith) ∙ sym (le-ltb room (at + bytes) k))

@@ -1,5 +1,7 @@
-// Text in ASCII, written into a lent buffer: decimal numbers and given bytes.
+// Text in ASCII, written into a lent buffer: decimal numbers and given bytes; whether there is room.
 ghost use mathlib.Core.Path.{_≡_};
+ghost use Prim.Native.Nat.{_+_};
+ghost use lib.Dec.{ltb};
 ghost use lib.ListN.{length};
 ghost use Rattle.rules.specs.Buffers.{written, after};
 ghost use Rattle.number.specs.Says.{writtenSays};
@@ -7,6 +9,16 @@ ghost use Rattle.text.specs.Decimal.{decimal};
 ghost use Rattle.rules.specs.Lent.{old, new};
 use number::Written;
 use rules::Refusal;
+
+// A buffer of this length is too short for so many bytes from a position on.
+pub fn too_short(length: usize, at: usize, bytes: usize) -> bool
+    ensures { λ t. ⌜ t ≡ ltb length (at + bytes) ⌝ }
+{
+    if length < at {
+        return true;
+    }
+    length - at < bytes
+}
 
 // How many digits a number has, 1 to 10.
 pub fn decimal_length(n: u32) -> usize
@@ -27,10 +39,7 @@ pub fn write_decimal(buffer: &mut [u8], at: usize, n: u32) -> Written
     ensures { λ r. ⌜ new buffer ≡ after (old buffer) at (decimal n) ⌝ }
 {
     let count = decimal_length(n);
-    if buffer.len() < at {
-        return Written::Refused(Refusal::BufferShort);
-    }
-    if buffer.len() - at < count {
+    if too_short(buffer.len(), at, count) {
         return Written::Refused(Refusal::BufferShort);
     }
     let mut i = at + (count - 1);
@@ -49,10 +58,7 @@ pub fn write_bytes(buffer: &mut [u8], at: usize, bytes: &[u8]) -> Written
     ensures { λ r. ⌜ writtenSays r ≡ written (old buffer) at (old bytes) ⌝ }
     ensures { λ r. ⌜ new buffer ≡ after (old buffer) at (old bytes) ⌝ }
 {
-    if buffer.len() < at {
-        return Written::Refused(Refusal::BufferShort);
-    }
-    if buffer.len() - at < bytes.len() {
+    if too_short(buffer.len(), at, bytes.len()) {
         return Written::Refused(Refusal::BufferShort);
     }
     let mut i = 0;

@@ -1,8 +1,9 @@
 -- `text::write_bytes` meets its contract. The loop's invariant: the first i bytes stand in the buffer.
-use mathlib.Core.Path.{sym}
+use mathlib.Core.Path.{sym, _∙_}
 use Prim.Native.Nat.{_-_}
 use native.Mathlib.Omega.{arith}
 use lib.ListN.{length}
+use borrow.Author.Tests.{ltb-true, ltb-false}
 use borrow.Author.Needs.{needs}
 use denote.Ref.{now}
 use Rattle.rules.proofs.Buffers.{written-all, kept}
@@ -16,9 +17,10 @@ Inv-loop buffer₀ at bytes i₀ buffer i = Copies buffer₀ at bytes buffer i
 abbrev μ-loop : tie.MeasureT-loop
 μ-loop buffer₀ at bytes i₀ buffer i = length bytes - i
 
-returns-3 : tie.Need-returns-3 Inv-loop μ-loop
-returns-3 c =
-    let a = c .before .before .before .before .args in
+returns-2 : tie.Need-returns-2 Inv-loop μ-loop
+returns-2 c =
+    let s : tie.Start Inv-loop μ-loop = search in
+    let a = s .args in
     let w = c .before .loop .inv in
     (sym (written-all (now (a .buffer)) (a .at) (now (a .bytes)) (w .room)), copy-ends w (c .loop-test .left))
 
@@ -28,10 +30,9 @@ write-bytes-spec =
     (tie.spec
     Inv-loop
     μ-loop
-    (λ c. let a = c .before .args in kept (now (a .buffer)) (a .at) (now (a .bytes)) (omega arith))
-    (λ c. search needs)
-    (λ c. let a = c .before .before .args in kept (now (a .buffer)) (a .at) (now (a .bytes)) (omega arith))
-    (λ c. copy-begins (omega arith))
+    (λ c κs. search needs)
+    (λ c. let s : tie.Start Inv-loop μ-loop = search in let a = s .args in kept (now (a .buffer)) (a .at) (now (a .bytes)) (ltb-true _ _ (sym (c .before .too-short .ensures) ∙ c .if1 .taken)))
+    (λ c. copy-begins (ltb-false _ _ (sym (c .before .too-short .ensures) ∙ c .if1 .left)))
     (λ c. omega arith)
     (λ c. omega arith)
     (λ c. omega (arith, copy-same (c .before .before .loop .inv)))
@@ -39,4 +40,4 @@ write-bytes-spec =
     (λ c. omega arith)
     (λ c. copy-again (c .before .before .loop .inv) (c .before .loop-test .taken))
     (λ c. copy-same (c .before .loop .inv))
-    returns-3)
+    returns-2)

@@ -1,11 +1,11 @@
--- `lines::fields::too_short` meets its contract.
+-- `text::too_short` meets its contract.
 use mathlib.Core.Path.{sym}
 use Prim.Native.Nat.{_+_}
 use native.Mathlib.Omega.{arith}
 use borrow.Author.Tests.{lt-ltb}
-use Rattle.lines.proofs.Laws.{short-same}
-use Rattle.lines.proofs.fields.too_short.Statement.{statement}
-use Rattle.lines.proofs.fields.too_short.Tie as tie
+use Rattle.text.proofs.Laws.{short-same}
+use Rattle.text.proofs.too_short.Statement.{statement}
+use Rattle.text.proofs.too_short.Tie as tie
 
 pub too-short-spec : {M : Type 1} → statement M
 too-short-spec =
