@@ -51,9 +51,10 @@ unfolding yearDays
 year-most true = omega arith
 year-most false = omega arith
 
-pub december : (l : Bool) → monthDays l 12 ≡ 31
-unfolding monthDays
-december l = refl
+pub year-least : (l : Bool) → 365 ≤ yearDays l
+unfolding yearDays
+year-least true = omega arith
+year-least false = omega arith
 
 -- ## The date so many days after 2000-01-01
 
@@ -105,7 +106,7 @@ counted k i j h m = in-month (2000 + k) (i + 1) _ (in-year (2000 + k) _ (years k
 unfoldable pub daysAfter : Date → ℕ
 daysAfter t = yearsDays (t .year - 2000) + monthsDays (leap (t .year)) (t .month - 1) + (t .day - 1)
 
-months-more : (l : Bool) (m : ℕ) → 1 ≤ m → monthsDays l m ≡ monthsDays l (m - 1) + monthDays l m
+pub months-more : (l : Bool) (m : ℕ) → 1 ≤ m → monthsDays l m ≡ monthsDays l (m - 1) + monthDays l m
 unfolding monthsDays
 months-more l zero h = absurd (omega arith)
 months-more l (suc i) h = let e : suc i - 1 ≡ i = omega arith in rw e

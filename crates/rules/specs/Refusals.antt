@@ -23,3 +23,4 @@ refusalNumber refusal.IdTaken = 22
 refusalNumber refusal.QuotaSum = 23
 refusalNumber refusal.RowsFull = 24
 refusalNumber refusal.BufferShort = 30
+refusalNumber refusal.Undated = 31

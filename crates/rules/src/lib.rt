@@ -56,6 +56,8 @@ pub enum Refusal {
     RowsFull,
     // Buffer shorter than the bytes needed.
     BufferShort,
+    // A grant's first or last day is above 36525.
+    Undated,
 }
 
 impl Refusal {
@@ -83,6 +85,7 @@ impl Refusal {
             Refusal::QuotaSum => 23,
             Refusal::RowsFull => 24,
             Refusal::BufferShort => 30,
+            Refusal::Undated => 31,
         }
     }
 }
