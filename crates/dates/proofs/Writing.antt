@@ -46,7 +46,7 @@ module _ (buffer : List ℕ) (at day : ℕ) where
   date-late h = (rw (lt-ltb _ _ h), rw (lt-ltb _ _ h))
 
   module _ (early : day ≤ lastDated) where
-    date-early : (written buffer at (dateText (dateOf day)) ≡ dateAnswer buffer at day) × (after buffer at (dateText (dateOf day)) ≡ dateBuffer buffer at day)
+    pub date-early : (written buffer at (dateText (dateOf day)) ≡ dateAnswer buffer at day) × (after buffer at (dateText (dateOf day)) ≡ dateBuffer buffer at day)
     unfolding dateAnswer dateBuffer
     date-early = (rw (le-ltb _ _ early), rw (le-ltb _ _ early))
 
