@@ -1,13 +1,8 @@
-// Boxes in the l–r plane: a group's l range and r range (RULES.md, 3). The two coordinates are types of their own, and the
-// number of each is private to its module, so that a comparison of an l-value with an r-value can't be written.
-mod left;
-mod plain;
-mod right;
-
+// Boxes in the l–r plane: a group's l range and r range (RULES.md, 3).
 ghost use mathlib.Core.Path.{_≡_};
 ghost use Rattle.boxes.specs.Boxes.{boxOf, contains, disjoint, nextChild, cornerCut};
-pub use left::LValue;
-pub use right::RValue;
+use coordinates::LValue;
+use coordinates::RValue;
 
 // A group's box: the l range from l to l + quota - 1, and the r range from r to r + quota - 1.
 pub struct Box {

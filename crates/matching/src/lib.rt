@@ -2,8 +2,8 @@
 ghost use mathlib.Core.Path.{_≡_};
 ghost use Rattle.grant.specs.Says.{grantOf};
 ghost use Rattle.matching.specs.Matching.{covers, appliesTo};
-use boxes::LValue;
-use boxes::RValue;
+use coordinates::LValue;
+use coordinates::RValue;
 use grant::Grant;
 
 // A grant covers a pass (l, r), whatever its feature: the pass stands at or below its numbers.

@@ -1,8 +1,8 @@
 // The test program for stored numbers and boxes: its input is a script, of which it prints each line with what the line's call answers.
 use boxes::Box;
 use boxes::Cut;
-use boxes::LValue;
-use boxes::RValue;
+use coordinates::LValue;
+use coordinates::RValue;
 use libc::STDIN_FILENO;
 use number::Drawn;
 use script::given;

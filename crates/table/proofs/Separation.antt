@@ -7,7 +7,8 @@ use native.Mathlib.Omega.{arith}
 use lib.Dec.{eqb}
 use lib.ListN.{length, getD, take, drop}
 use lib.Seq.{drop-cons}
-use Rattle.boxes.specs.Boxes.{boxOf, disjoint, apart}
+use Rattle.coordinates.specs.Coordinates.{apart}
+use Rattle.boxes.specs.Boxes.{boxOf, disjoint}
 use Rattle.boxes.specs.declared.Box.{Box}
 use Rattle.distinct.specs.Distinct.{noneIs, allDiffer}
 use Rattle.separate.specs.Separate.{boxesOf, noneMeets, allDisjoint}

@@ -1,8 +1,6 @@
 -- `boxes::Box::corner` meets its contract.
-use mathlib.Core.Bool.{true, false}
 use Prim.Native.Nat.{_+_, _≤_}
-use native.Mathlib.Omega.{arith}
-use Rattle.boxes.proofs.Ranges.{corner-none, corner-whole, corner-parts}
+use Rattle.boxes.proofs.Cuts.{corner-none, corner-whole, corner-low, corner-high}
 use borrow.Author.Needs.{needs}
 use Rattle.boxes.proofs.Box.corner.Statement.{statement}
 use Rattle.boxes.proofs.Box.corner.Tie as tie
@@ -18,20 +16,18 @@ corner-spec =
     (tie.spec
     (λ c κs. search needs) (λ c κs. search needs)
     (λ c. let s : tie.Start = search in corner-none (s .args .self) (s .args .own) _ (rw (← (c .before .before .passes .ensures), ← (c .before .passes2 .ensures)) (c .if1 .taken)))
-    (λ c. let e : tie.Else1 = search in omega (arith, whole e))
-    (λ c κs. let e : tie.Else1 = search in omega (arith, whole e))
-    (λ c κs. let e : tie.Else1 = search in omega (arith, whole e))
+    (λ c. let e : tie.Else1 = search in whole e .0)
+    (λ c κs. search needs) (λ c κs. search needs)
     (λ c.
     let e : tie.Else1 = search in
     let t : tie.Then2 = search in
     let s : tie.Start = search in
     let f = whole e in
-    rw (c .before .plus .ensures, c .plus2 .ensures) (rw (t .if2 .taken) (corner-parts (s .args .self) (s .args .own) true (f .0) (f .1 .0) (f .1 .1))))
-    (λ c κs. let e : tie.Else1 = search in omega (arith, whole e))
-    (λ c κs. let e : tie.Else1 = search in omega (arith, whole e))
+    rw (c .before .plus .ensures, c .plus2 .ensures) (rw (t .if2 .taken) (corner-low (s .args .self) (s .args .own) (f .0) (f .1 .0) (f .1 .1))))
+    (λ c κs. search needs) (λ c κs. search needs)
     (λ c.
     let e : tie.Else1 = search in
     let t : tie.Else2 = search in
     let s : tie.Start = search in
     let f = whole e in
-    rw (c .before .plus3 .ensures, c .plus4 .ensures, t .if2 .left) (corner-parts (s .args .self) (s .args .own) false (f .0) (f .1 .0) (f .1 .1))))
+    rw (c .before .plus3 .ensures, c .plus4 .ensures, t .if2 .left) (corner-high (s .args .self) (s .args .own) (f .0) (f .1 .0) (f .1 .1))))

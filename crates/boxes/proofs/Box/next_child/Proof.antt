@@ -1,7 +1,7 @@
 -- `boxes::Box::next_child` meets its contract.
 use Prim.Native.Nat.{_+_, _-_, _≤_}
-use native.Mathlib.Omega.{arith}
-use Rattle.boxes.proofs.Ranges.{too-small, too-far, not-past, parts}
+use Rattle.coordinates.proofs.Ranges.{not-past}
+use Rattle.boxes.proofs.Cuts.{too-small, too-far, next-parts}
 use borrow.Author.Needs.{needs}
 use Rattle.boxes.proofs.Box.next_child.Statement.{statement}
 use Rattle.boxes.proofs.Box.next_child.Tie as tie
@@ -20,10 +20,9 @@ next-child-spec =
     let s : tie.Start = search in
     let e : tie.Else1 = search in
     too-far (s .args .self) (s .args .quota) (e .if1 .left) (rw (← (c .before .before .passes .ensures), ← (c .before .passes2 .ensures)) (c .if2 .taken)))
-    (λ c κs. omega (arith, within c))
-    (λ c κs. omega (arith, within (c .before)))
+    (λ c κs. search needs) (λ c κs. search needs)
     (λ c.
     let s : tie.Start = search in
     let e : tie.Else1 = search in
     let f = within (c .before .before) in
-    rw (c .before .plus .ensures, c .plus2 .ensures) (parts (s .args .self) (s .args .quota) (e .if1 .left) (f .0) (f .1))))
+    rw (c .before .plus .ensures, c .plus2 .ensures) (next-parts (s .args .self) (s .args .quota) (e .if1 .left) (f .0) (f .1))))

@@ -12,8 +12,8 @@ use denote.Ref.{now}
 use Rattle.boxes.specs.declared.Box.{Box}
 use Rattle.boxes.proofs.Box.next_child.Reads as next-child-reads
 use Rattle.boxes.proofs.Box.corner.Reads as corner-reads
-use Rattle.boxes.proofs.left.LValue.write.Reads as write-l-reads
-use Rattle.boxes.proofs.right.RValue.write.Reads as write-r-reads
+use Rattle.coordinates.proofs.left.LValue.write.Reads as write-l-reads
+use Rattle.coordinates.proofs.right.RValue.write.Reads as write-r-reads
 use Rattle.boxes.specs.Boxes.{cornerOf, innerOf}
 use Rattle.request.specs.Numbering.{lefts, rights, whole}
 use Rattle.reading.specs.Work.{work}

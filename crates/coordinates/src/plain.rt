@@ -2,8 +2,9 @@
 ghost use mathlib.Core.Path.{_≡_};
 ghost use Prim.Native.Nat.{_+_};
 ghost use Rattle.rules.specs.Lent.{old, new};
-ghost use Rattle.boxes.specs.Boxes.{within, apart, columnWith, past};
+ghost use Rattle.coordinates.specs.Coordinates.{within, apart, columnWith, past, onward};
 use rules::GREATEST;
+use std::num::wrapping_add_u64;
 
 // The second of two ranges lies in the first.
 pub(crate) fn within(a: u64, q: u64, b: u64, p: u64) -> bool
@@ -33,6 +34,13 @@ pub(crate) fn passes(a: u64, n: u64) -> bool
     ensures { λ t. ⌜ t ≡ past (a + n) ⌝ }
 {
     18446744073709551615 - a < n
+}
+
+// n numbers on from a; past 64 bits it wraps.
+pub(crate) fn onward(a: u64, n: u64) -> u64
+    ensures { λ m. ⌜ m ≡ onward a n ⌝ }
+{
+    wrapping_add_u64(a, n)
 }
 
 // Writes n to place i of a column, where n has 32 bits and the column has the place.

@@ -4,6 +4,7 @@ use mathlib.Core.Bool.{Bool, true, false, cond, _||_}
 use mathlib.Core.List.{List}
 use mathlib.Core.Logic.{inl, inr}
 use Prim.Native.Nat.{ℕ, _+_, _-_, _≤_, _<_}
+use native.Mathlib.Nat.{mod-eq-of-lt}
 use native.Mathlib.Omega.{arith}
 use lib.Dec.{leb, ltb}
 use lib.ListN.{set}
@@ -12,9 +13,7 @@ use Rattle.rules.specs.Limits.{greatest}
 use Rattle.rules.proofs.Bools.{or-none}
 use Rattle.rules.proofs.Cases.{by-lt}
 use Rattle.rules.proofs.Ranges.{Clear, le-same}
-use Rattle.boxes.specs.Boxes.{columnWith, within, apart, boxOf, past, nextChild, cornerOf, innerOf, cornerCut}
-use Rattle.boxes.specs.declared.Box.{Box}
-use Rattle.boxes.specs.declared.Cut.the-variants.{Parts, None}
+use Rattle.coordinates.specs.Coordinates.{columnWith, within, apart, past, onward}
 
 -- a coordinate is past 64 bits, with a difference in the place of the sum
 pub lt-past : (a n : ℕ) → a ≤ 18446744073709551615 → ltb (18446744073709551615 - a) n ≡ past (a + n)
@@ -26,6 +25,10 @@ lt-past a n h =
 -- neither of two coordinates is
 pub not-past : {a b : ℕ} {s t : Bool} → s ≡ past a → t ≡ past b → (s || t) ≡ false → (a ≤ 18446744073709551615) × (b ≤ 18446744073709551615)
 not-past e f g = let h = or-none _ _ g in (ltb-false _ _ (sym e ∙ h .0), ltb-false _ _ (sym f ∙ h .1))
+
+-- a coordinate that is not past 64 bits is reached
+pub reached : (a n : ℕ) → a + n ≤ 18446744073709551615 → onward a n ≡ a + n
+reached a n h = mod-eq-of-lt (omega arith)
 
 module _ (a q b p : ℕ) where
   pub apart-clear : apart a q b p ≡ true → Clear a q b p
@@ -66,30 +69,3 @@ module _ (a q b p : ℕ) where
 pub writes : (column : List ℕ) (i n : ℕ) → n ≤ greatest → columnWith column i n ≡ set column i n
 unfolding columnWith
 writes column i n h = rw (le-leb _ _ h)
-
-module _ (b : Box) (q : ℕ) where
-  pub too-small : b .quota < q → None ≡ nextChild b q
-  unfolding nextChild
-  too-small h = rw (lt-ltb _ _ h)
-
-  pub too-far : q ≤ b .quota → (past (b .l .0 + q) || past (b .r .0 + (b .quota - q))) ≡ true → None ≡ nextChild b q
-  unfolding nextChild
-  too-far h e = rw (le-ltb _ _ h, e)
-
-  pub parts : q ≤ b .quota → b .l .0 + q ≤ 18446744073709551615 → b .r .0 + (b .quota - q) ≤ 18446744073709551615
-      → Parts (boxOf (b .l .0) (b .r .0 + (b .quota - q)) q) (boxOf (b .l .0 + q) (b .r .0) (b .quota - q)) ≡ nextChild b q
-  unfolding nextChild
-  parts h k m = rw (le-ltb _ _ h, le-ltb _ _ k, le-ltb _ _ m)
-
-  pub corner-none : (up : Bool) → (ltb (b .quota) q || (past (b .l .0 + b .quota) || past (b .r .0 + b .quota))) ≡ true → None ≡ cornerCut up b q
-  unfolding cornerCut
-  corner-none up e = rw e
-
-  pub corner-parts : (up : Bool) → q ≤ b .quota → b .l .0 + b .quota ≤ 18446744073709551615 → b .r .0 + b .quota ≤ 18446744073709551615
-      → Parts (cornerOf up b q) (innerOf up b q) ≡ cornerCut up b q
-  unfolding cornerCut
-  corner-parts up h k m = rw (le-ltb _ _ h, le-ltb _ _ k, le-ltb _ _ m)
-
-  pub corner-whole : {s t : Bool} → s ≡ past (b .l .0 + b .quota) → t ≡ past (b .r .0 + b .quota) → (ltb (b .quota) q || (s || t)) ≡ false
-      → (q ≤ b .quota) × ((b .l .0 + b .quota ≤ 18446744073709551615) × (b .r .0 + b .quota ≤ 18446744073709551615))
-  corner-whole e f g = let h = or-none _ _ g in (ltb-false _ _ (h .0), not-past e f (h .1))

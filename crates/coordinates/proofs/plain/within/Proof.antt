@@ -1,7 +1,7 @@
--- `boxes::plain::within` meets its contract.
-use Rattle.boxes.proofs.Ranges.{within-in, within-past, within-before}
-use Rattle.boxes.proofs.plain.within.Statement.{statement}
-use Rattle.boxes.proofs.plain.within.Tie as tie
+-- `coordinates::plain::within` meets its contract.
+use Rattle.coordinates.proofs.Ranges.{within-in, within-past, within-before}
+use Rattle.coordinates.proofs.plain.within.Statement.{statement}
+use Rattle.coordinates.proofs.plain.within.Tie as tie
 
 pub within-spec : {M : Type 1} → statement M
 within-spec =

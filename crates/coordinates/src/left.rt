@@ -1,9 +1,10 @@
 // The l coordinate. Its number is private to this module.
 ghost use mathlib.Core.Path.{_≡_};
-ghost use Prim.Native.Nat.{_+_, _≤_};
+ghost use Prim.Native.Nat.{_+_};
 ghost use Rattle.rules.specs.Lent.{old, new};
-ghost use Rattle.boxes.specs.Boxes.{lValue, within, apart, atMost, columnWith, past};
+ghost use Rattle.coordinates.specs.Coordinates.{lValue, within, apart, atMost, columnWith, past, onward};
 use crate::plain::apart;
+use crate::plain::onward;
 use crate::plain::passes;
 use crate::plain::within;
 use crate::plain::write;
@@ -33,31 +34,30 @@ impl LValue {
     }
 
     // Of the l ranges of q numbers from here on and of p numbers from there on, the second lies in the first.
-    pub(crate) fn encloses(self, q: u64, there: LValue, p: u64) -> bool
+    pub fn encloses(self, q: u64, there: LValue, p: u64) -> bool
         ensures { λ t. ⌜ t ≡ within (self .0) q (there .0) p ⌝ }
     {
         within(self.0, q, there.0, p)
     }
 
     // They are disjoint.
-    pub(crate) fn apart_from(self, q: u64, there: LValue, p: u64) -> bool
+    pub fn apart_from(self, q: u64, there: LValue, p: u64) -> bool
         ensures { λ t. ⌜ t ≡ apart (self .0) q (there .0) p ⌝ }
     {
         apart(self.0, q, there.0, p)
     }
 
     // The l-value n numbers on is past 64 bits.
-    pub(crate) fn passes(self, n: u64) -> bool
+    pub fn passes(self, n: u64) -> bool
         ensures { λ t. ⌜ t ≡ past (self .0 + n) ⌝ }
     {
         passes(self.0, n)
     }
 
-    // The l-value n numbers on.
-    pub(crate) fn plus(self, n: u64) -> LValue
-        requires { ⌜ self .0 + n ≤ 18446744073709551615 ⌝ }
-        ensures { λ x. ⌜ x ≡ lValue (self .0 + n) ⌝ }
+    // The l-value n numbers on; past 64 bits it wraps.
+    pub fn plus(self, n: u64) -> LValue
+        ensures { λ x. ⌜ x ≡ lValue (onward (self .0) n) ⌝ }
     {
-        LValue(self.0 + n)
+        LValue(onward(self.0, n))
     }
 }
