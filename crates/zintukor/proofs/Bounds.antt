@@ -1,15 +1,18 @@
 -- The counts that are encoded are small: a new count is at most the most rows, and so many rows have few bytes.
-use mathlib.Core.Path.{_≡_, refl, ap}
+use mathlib.Core.Path.{_≡_, refl, ap, sym, _∙_}
 use mathlib.Core.Bool.{Bool, true, false, cond, _||_}
-use mathlib.Core.List.{List}
-use Prim.Native.Nat.{ℕ, _+_, _*_, _≤_}
+use mathlib.Core.List.{List, [], _∷_}
+use Prim.Native.Nat.{ℕ, zero, suc, _+_, _*_, min, _≤_}
 use native.Mathlib.Omega.{arith}
 use lib.Dec.{eqb}
-use lib.ListN.{length, length-append}
+use lib.ListN.{length, take, drop, length-append}
+use lib.Seq.{length-take-le, take-all}
+use borrow.Author.Tests.{le-leb, lt-leb}
 use Rattle.rules.specs.Answers.{Answer, answer, refused, then}
 use Rattle.rules.specs.Limits.{greatest, mostRows}
 use Rattle.rules.specs.Buffers.{room, written}
 use Rattle.rules.proofs.Answers.{same-answer, never-refused, peel}
+use Rattle.rules.proofs.Cases.{by-lt}
 use Rattle.number.specs.Number.{bytesOf}
 use Rattle.number.proofs.Laws.{number-count}
 use Rattle.table.specs.Columns.{Row, Columns, counted}
@@ -23,6 +26,7 @@ use Rattle.refine.proofs.Fitting.{refined-most}
 use Rattle.stored.specs.Stored.{readRows, rowsBytes, tableBytes, storeAnswer}
 use Rattle.stored.proofs.Bytes.{rows-most}
 use Rattle.stored.proofs.Laws.{read-found}
+use Rattle.page.specs.Page.{pageOf, pageAnswer}
 use Rattle.zintukor.specs.inside.Small.{Small}
 
 -- what a small answer holds
@@ -82,3 +86,47 @@ store-small c count buffer = go (checked c count) refl
         let p = check-passed c count e in
         written-small buffer t (omega (arith, ap length (p .1), rows-length c 0 count, p .0 .most, p .0 .lengths .most))
     go (refused n) e = tt
+
+-- ## A page: no longer than its buffer
+
+room-small : (buffer text : List ℕ) → length buffer ≤ greatest → Small (written buffer 0 text)
+unfolding written room
+room-small buffer text h =
+    by-lt (length buffer) (0 + length text)
+    (λ k. rw (lt-leb _ _ k) tt)
+    (λ k. rw (le-leb _ _ k) (omega arith))
+
+pub page-small : (l r day : ℕ) (bytes buffer : List ℕ) → length buffer ≤ greatest → Small (pageAnswer l r day bytes buffer)
+unfolding pageAnswer
+page-small l r day bytes buffer h = go (pageOf l r day bytes)
+  where
+    go : (a : Answer (List ℕ)) → Small (then a λ text. written buffer 0 text)
+    go (answer text) = room-small buffer text h
+    go (refused n) = tt
+
+-- ## The part of a buffer that is used
+
+drop-past : (n : ℕ) (s : List ℕ) → length s ≤ n → drop n s ≡ []
+drop-past zero [] h = refl
+drop-past (suc n) [] h = refl
+drop-past zero (x ∷ s) h = absurd (omega arith)
+drop-past (suc n) (x ∷ s) h = drop-past n s (omega arith)
+
+module _ (buffer : List ℕ) (n : ℕ) {room : ℕ} (e : room ≡ min (length buffer) n) where
+  pub used-count : room ≡ length (take room buffer)
+  used-count = sym (length-take-le room buffer (omega arith))
+
+  pub used : take room buffer ≡ take n buffer
+  used =
+      by-lt n (length buffer)
+      (λ h. let f : room ≡ n = omega arith in ap (λ k. take k buffer) f)
+      (λ h. take-all room buffer (omega arith) ∙ sym (take-all n buffer h))
+
+  pub unused : drop room buffer ≡ drop n buffer
+  unused =
+      by-lt n (length buffer)
+      (λ h. let f : room ≡ n = omega arith in ap (λ k. drop k buffer) f)
+      (λ h. drop-past room buffer (omega arith) ∙ sym (drop-past n buffer h))
+
+  pub used-most : length (take room buffer) ≤ n
+  used-most = omega (arith, used-count)

@@ -1,5 +1,7 @@
 // A count or a byte count as one number. It is small, so that it does not run into the kind.
 ghost use mathlib.Core.Path.{_≡_};
+ghost use Prim.Native.Nat.{min};
+ghost use Rattle.rules.specs.Limits.{greatest};
 ghost use Rattle.number.specs.Says.{writtenSays};
 ghost use Rattle.table.specs.Says.{countedSays};
 ghost use Rattle.codes.specs.Codes.{countCode};
@@ -7,6 +9,7 @@ ghost use Rattle.zintukor.specs.inside.Small.{Small};
 use codes::count_code;
 use codes::refusal_code;
 use number::Written;
+use rules::GREATEST;
 use table::Counted;
 
 // The number of a count or a refusal.
@@ -29,4 +32,14 @@ pub(crate) fn written_code(a: Written) -> u64
         Written::Bytes(n) => count_code(n as u32),
         Written::Refused(why) => refusal_code(why),
     }
+}
+
+// A length, or the greatest number where it is above that.
+pub(crate) fn in_32_bits(length: usize) -> usize
+    ensures { λ t. ⌜ t ≡ min length greatest ⌝ }
+{
+    if (GREATEST as usize) < length {
+        return GREATEST as usize;
+    }
+    length
 }

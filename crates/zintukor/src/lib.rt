@@ -8,7 +8,11 @@ ghost use Rattle.table.specs.Check.{checked};
 ghost use Rattle.fresh.specs.Fresh.{freshRows};
 ghost use Rattle.order.specs.Order.{order as tableOrder};
 ghost use Rattle.refine.specs.Refine.{refined};
+ghost use mathlib.Core.List.{_++_};
+ghost use lib.ListN.{take, drop};
+ghost use Rattle.rules.specs.Limits.{greatest};
 ghost use Rattle.decide.specs.Decision.{decided};
+ghost use Rattle.page.specs.Page.{pageOf, pageAnswer, pageBuffer};
 ghost use Rattle.stored.specs.Stored.{storeAnswer, storeBuffer, readRows};
 ghost use Rattle.codes.specs.Codes.{countCode, orderCode, decisionCode};
 ghost use Rattle.rules.specs.Lent.{old, new};
@@ -16,11 +20,13 @@ ghost use Rattle.table.specs.Lent.{oldColumns, newColumns};
 use codes::decision_code;
 use codes::order_code;
 use counts::counted_code;
+use counts::in_32_bits;
 use counts::written_code;
 use decide::decide;
 use fresh::fresh;
 use load::read;
 use order::order;
+use page::page;
 use refine::refine;
 use store::store;
 
@@ -78,6 +84,17 @@ pub extern "C" fn zintukor_decide(feature: u32, l: u32, r: u32, day: u32, grants
     ensures { λ t. ⌜ t ≡ decisionCode (decided feature l r day (old grants)) ⌝ }
 {
     decision_code(decide(feature, l, r, day, grants))
+}
+
+// The page of a pass (l, r) on a day, for the shift board. An answer's value has 32 bits: of a buffer that is longer, as many bytes as that
+// are used.
+#[no_mangle]
+pub extern "C" fn zintukor_page(l: u32, r: u32, day: u32, grants: &[u8], buffer: &mut [u8]) -> u64
+    ensures { λ t. ⌜ t ≡ countCode (pageAnswer l r day (old grants) (take greatest (old buffer))) ⌝ }
+    ensures { λ t. ⌜ new buffer ≡ pageBuffer (pageOf l r day (old grants)) (take greatest (old buffer)) ++ drop greatest (old buffer) ⌝ }
+{
+    let room = in_32_bits(buffer.len());
+    written_code(page(l, r, day, grants, &mut buffer[..room]))
 }
 
 // Stores a table as bytes.
