@@ -1,6 +1,6 @@
 -- A page's lines, written one after another as the list is read again, and what the whole call gives.
 use mathlib.Core.Path.{_≡_, refl, ap, sym, _∙_}
-use mathlib.Core.Bool.{true, false}
+use mathlib.Core.Bool.{Bool, true, false}
 use mathlib.Core.List.{List, [], _∷_, _++_, flatMap}
 use Prim.Native.Nat.{ℕ, _+_, _*_, _/_, _<_, _≤_}
 use native.Mathlib.Nat.{mul-suc}
@@ -11,14 +11,14 @@ use Rattle.rules.specs.Buffers.{written, after}
 use Rattle.rules.proofs.Answers.{same-answer, then-answer, then-refused, never-refused}
 use Rattle.rules.proofs.Cases.{by-lt}
 use Rattle.rules.proofs.Buffers.{written-all, kept, after-same, after-none, after-after}
-use Rattle.grant.specs.Grant.{Grant, GrantRead, grantsBy}
+use Rattle.grant.specs.Grant.{Grant, GrantRead, grantAt, grantsBy}
 use Rattle.grant.proofs.Listing.{inFront, grantsAt, grants-unfold, grants-done, grants-all}
 use Rattle.matching.specs.Matching.{covers}
-use Rattle.board.specs.Board.{grantLine, lineBuffer}
+use Rattle.board.specs.Board.{grantLine, late, lineBuffer}
 use Rattle.board.proofs.Laws.{line-count, line-good}
 use Rattle.page.specs.Page.{pageBad, datedGrantAt, applying, pageText, pageOf, pageAnswer, pageBuffer}
 use Rattle.page.specs.inside.Reading.{linesOf, linesText, Fits}
-use Rattle.page.proofs.Listing.{dated-read, dated-stands, dated-goes-on}
+use Rattle.page.proofs.Listing.{dated-read, dated-stands, dated-goes-on, dated-late, dated-given}
 
 module _ (l r day : ℕ) where
   -- a grant that applies has a line, another one has none
@@ -87,6 +87,14 @@ module _ (l r day : ℕ) (bytes : List ℕ) (whole : ℕ) (buffer₀ : List ℕ)
     module _ (more : at < length bytes) where
       pub not-refused : {C : Type 0} {n : ℕ} → datedGrantAt bytes at ≡ refused n → C
       not-refused {n = n} e = never-refused {n = n} (sym (grants-unfold datedGrantAt dated-goes-on bytes at more ∙ rw e) ∙ left .reads)
+
+      -- a grant of the bytes is not late
+      pub in-time : {g : GrantRead} → grantAt bytes at ≡ answer g → datedGrantAt bytes at ≡ answer g
+      in-time {g} e = go (late (g .grant)) refl
+        where
+          go : (b : Bool) → late (g .grant) ≡ b → datedGrantAt bytes at ≡ answer g
+          go true k = not-refused (sym (dated-late bytes at e k))
+          go false k = sym (dated-given bytes at e k)
 
       -- a grant, and the rest
       record Next (g : GrantRead) : Type 0 where

@@ -4,8 +4,7 @@ ghost use mathlib.Core.Path.{_≡_};
 ghost use Rattle.rules.specs.Buffers.{after};
 ghost use Rattle.rules.specs.Lent.{old, new};
 ghost use Rattle.number.specs.Says.{writtenSays};
-ghost use Rattle.grant.specs.Says.{grantSays};
-ghost use Rattle.page.specs.Page.{pageBad, datedGrantAt, pageOf, pageAnswer, pageBuffer};
+ghost use Rattle.page.specs.Page.{pageBad, pageOf, pageAnswer, pageBuffer};
 ghost use Rattle.page.specs.inside.Reading.{linesOf, countSays, linesText, Fits};
 use board::LINE;
 use board::late;
@@ -25,40 +24,29 @@ fn page_bad(l: u32, r: u32, day: u32) -> bool
     (l == 0) | ((r == 0) | (day == 0))
 }
 
-// The grant at a position of a page's list: 1, 2, 14, then 31.
-fn dated_grant_at(bytes: &[u8], at: usize) -> GrantDrawn
-    ensures { λ t. ⌜ grantSays t ≡ datedGrantAt (old bytes) at ⌝ }
-{
-    match grant_at(bytes, at) {
-        GrantDrawn::Refused(why) => GrantDrawn::Refused(why),
-        GrantDrawn::Grant(g, next) => {
-            if late(g) {
-                return GrantDrawn::Refused(Refusal::Undated);
-            }
-            GrantDrawn::Grant(g, next)
-        }
-    }
-}
-
 // What the first reading gives.
 enum LineCount {
     Lines(usize),
     Refused(Refusal),
 }
 
-// The first reading of the whole list, from left to right: how many of its grants apply.
+// The first reading of the whole list, from left to right (1, 2, 14, then 31): how many of its grants apply.
 fn count_lines(l: u32, r: u32, grants: &[u8]) -> LineCount
     ensures { λ t. ⌜ countSays t ≡ linesOf l r (old grants) ⌝ }
 {
     let mut lines = 0;
     let mut at = 0;
     while at < grants.len() {
-        match dated_grant_at(grants, at) {
+        match grant_at(grants, at) {
             GrantDrawn::Refused(why) => {
                 return LineCount::Refused(why);
             }
             GrantDrawn::Grant(g, next) => {
-                if covers(LValue::new(l as u64), RValue::new(r as u64), g) {
+                let applies = covers(LValue::new(l as u64), RValue::new(r as u64), g);
+                if late(g) {
+                    return LineCount::Refused(Refusal::Undated);
+                }
+                if applies {
                     lines += 1;
                 }
                 at = next;
@@ -76,7 +64,7 @@ fn write_lines(buffer: &mut [u8], whole: usize, l: u32, r: u32, day: u32, grants
     let mut p = 0;
     let mut at = 0;
     while p < whole {
-        match dated_grant_at(grants, at) {
+        match grant_at(grants, at) {
             GrantDrawn::Refused(why) => {
                 return;
             }
