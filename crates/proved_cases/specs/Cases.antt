@@ -1,10 +1,10 @@
--- The kinds of worked example in document 01: what is given, what the definitions make of it, and what the document says.
+-- The kinds of worked example in document 01, and those of dates and pages: what is given, what the definitions make of it, and what is said of it.
 use Prim.Native.Nat.{ℕ}
 use Prim.Native.String.{String}
 use mathlib.Core.Bool.{Bool}
 use mathlib.Core.List.{List, [], _∷_, _++_, map}
 use lib.ListN.{length, take, drop}
-use Rattle.rules.specs.Answers.{Answer, answer, refused}
+use Rattle.rules.specs.Answers.{Answer, answer, refused, then}
 use Rattle.rules.specs.Limits.{mostRows}
 use Rattle.number.specs.Number.{Number, found, numberAt, bytesOf}
 use Rattle.request.specs.Entries.{quotaOf}
@@ -18,6 +18,8 @@ use Rattle.ledger.specs.Ledger.{Ledger, freshLedger, afreshL, afreshR}
 use Rattle.ledger.specs.Calls.{Call, Reply, engineStart, engineReplies, engineEnd, ledgerReplies, ledgerEnd, explodedIn}
 use Rattle.ledger.specs.Decisions.{GroupGrant, ledgerDecided}
 use Rattle.table.specs.Columns.{Table, rowsIn}
+use Rattle.calendar.specs.Calendar.{Date, dateOf}
+use Rattle.page.specs.Page.{pageOf}
 use Rattle.replay.specs.Replay.{Replay, replayOf, blank, growText}
 use Rattle.proved_cases.specs.Lines.{lines}
 
@@ -47,6 +49,10 @@ pub data Case : Type 0 where
   asked : (feature l r day : ℕ) → List Grant → Answer Decision → Case
   -- a decision or a refusal, and the line that is printed of it
   answered : Answer Decision → String → Case
+  -- a day, and the date that it falls on
+  falls : (day : ℕ) → Date → Case
+  -- a pass (l, r), a day and grants, and the lines of the page
+  paged : (l r day : ℕ) → List Grant → Answer (List String) → Case
   -- fresh of a group and a quota, then calls; a pass of the group x, noted after n of them, and grants; feature and day. The pass's note and the grants',
   -- what is decided from their numbers, and what the ledger's last order gives
   noted : (id quota : ℕ) → List Call → (n x : ℕ) → List NotedGrant → (feature day : ℕ) → List Note → (byNumbers byOrder : Answer Decision) → Case
@@ -63,6 +69,10 @@ pub data Outcome : Type 0 where
   printed : List ℕ → List Row → Outcome
   -- the decision on the grants' stored bytes
   decision : Answer Decision → Outcome
+  -- a day's date
+  date : Date → Outcome
+  -- the page of the grants' stored bytes, by its bytes
+  page : Answer (List ℕ) → Outcome
   -- the notes of a pass and of grants, the decision from their numbers, and the ledger's
   decisions : List Note → Answer Decision → Answer Decision → Outcome
 
@@ -121,6 +131,8 @@ computed (grown id quota calls said after) =
 computed (logged numbers text after) = printed (growText blank (stream numbers)) (rowsAfter (replayOf blank (stream numbers)))
 computed (asked feature l r day gs said) = decision (decided feature l r day (grantsBytes gs))
 computed (answered said text) = printed (decisionText said) []
+computed (falls day said) = date (dateOf day)
+computed (paged l r day gs said) = page (pageOf l r day (grantsBytes gs))
 computed (noted id quota calls n x hs feature day ns byNumbers byOrder) =
     let pass = note id quota calls n x in
     decisions (pass ∷ map (noteOf id quota calls) hs)
@@ -134,4 +146,6 @@ stated (grown id quota calls said after) = run said after said after
 stated (logged numbers text after) = printed (lines text) after
 stated (asked feature l r day gs said) = decision said
 stated (answered said text) = printed (lines (text ∷ [])) []
+stated (falls day said) = date said
+stated (paged l r day gs said) = page (then said λ text. answer (lines text))
 stated (noted id quota calls n x hs feature day ns byNumbers byOrder) = decisions ns byNumbers byOrder

@@ -1,4 +1,4 @@
--- The cases that document 01 marks P, in its order; after its decisions, the lines that `may` prints of them. At the end, demand 3's last two clauses.
+-- The cases that document 01 marks P, in its order; after its decisions, the lines that `may` prints of them, dates and pages. At the end, demand 3's last two clauses.
 use Prim.Native.Nat.{ℕ}
 use Prim.Native.String.{String}
 use mathlib.Core.Bool.{true, false}
@@ -8,8 +8,9 @@ use Rattle.table.specs.Columns.{Row}
 use Rattle.order.specs.Order.{Order, same, first, second, incomparable}
 use Rattle.grant.specs.Grant.{grant}
 use Rattle.renewals.specs.Dating.{onOpen, onUntil, ended, ahead, never}
+use Rattle.calendar.specs.Calendar.{date}
 use Rattle.ledger.specs.Calls.{Call, refine, order, Reply, refineSays, orderSays}
-use Rattle.proved_cases.specs.Cases.{Case, NotedGrant, Note, stored, made, grown, logged, asked, answered, noted, row, stream}
+use Rattle.proved_cases.specs.Cases.{Case, NotedGrant, Note, stored, made, grown, logged, asked, answered, falls, paged, noted, row, stream}
 
 -- a request by its numbers
 abbrev pub request : List ℕ → Call
@@ -175,6 +176,35 @@ cases =
     ∷ answered (answer onOpen) "on open"
     ∷ answered (answer never) "never"
     ∷ answered (refused 15) "no 15"
+    -- dates: the first day and the last; February of 2000 and of 2001; the end of 2000
+    ∷ falls 1 (date 2000 1 1)
+    ∷ falls 60 (date 2000 2 29)
+    ∷ falls 61 (date 2000 3 1)
+    ∷ falls 366 (date 2000 12 31)
+    ∷ falls 367 (date 2001 1 1)
+    ∷ falls 425 (date 2001 2 28)
+    ∷ falls 426 (date 2001 3 1)
+    ∷ falls 36525 (date 2099 12 31)
+    -- pages: a grant's state on its border days; features in list order, the longest and the shortest, open; a grant that does not apply
+    ∷ paged 1 1 9 (grant 7 2 2 10 20 ∷ []) (answer ("         7 2000-01-10 2000-01-20 ahead  " ∷ []))
+    ∷ paged 1 1 10 (grant 7 2 2 10 20 ∷ []) (answer ("         7 2000-01-10 2000-01-20 on     " ∷ []))
+    ∷ paged 1 1 20 (grant 7 2 2 10 20 ∷ []) (answer ("         7 2000-01-10 2000-01-20 on     " ∷ []))
+    ∷ paged 1 1 21 (grant 7 2 2 10 20 ∷ []) (answer ("         7 2000-01-10 2000-01-20 ended  " ∷ []))
+    ∷ paged 2 2 61
+    (grant 300 2 2 60 0 ∷ grant 8 1 2 10 20 ∷ grant 7 2 2 1 60 ∷ grant 4294967295 3 2 367 367 ∷ [])
+    (answer ("       300 2000-02-29 open       on     " ∷ "         7 2000-01-01 2000-02-29 ended  " ∷ "4294967295 2001-01-01 2001-01-01 ahead  " ∷ []))
+    -- a day asked past the last date
+    ∷ paged 1 1 36526 (grant 7 2 2 61 366 ∷ grant 8 2 2 426 0 ∷ [])
+    (answer ("         7 2000-03-01 2000-12-31 ended  " ∷ "         8 2001-03-01 open       on     " ∷ []))
+    -- the empty page; 15; 14 and 31 from left to right, whether the grant applies or not
+    ∷ paged 1 1 15 [] (answer [])
+    ∷ paged 2 2 15 (grant 7 1 2 10 20 ∷ []) (answer [])
+    ∷ paged 0 1 15 (grant 7 2 2 10 36526 ∷ []) (refused 15)
+    ∷ paged 1 0 15 (grant 7 2 2 10 36526 ∷ []) (refused 15)
+    ∷ paged 1 1 0 (grant 7 2 2 10 36526 ∷ []) (refused 15)
+    ∷ paged 2 2 15 (grant 7 2 2 10 20 ∷ grant 8 1 2 36526 0 ∷ []) (refused 31)
+    ∷ paged 2 2 15 (grant 8 1 2 10 9 ∷ grant 7 2 2 10 36526 ∷ []) (refused 14)
+    ∷ paged 2 2 15 (grant 7 1 2 10 36526 ∷ grant 8 2 2 10 9 ∷ []) (refused 31)
     ∷ logged log9 lines9 rows9
     ∷ grown 1 100 calls9 replies9 rows9
     -- 9's pass, and grants to 5 and 3, each noted at a point of its own; then 4 is exploded. 9 ≤ 5 still, and 3's grant is still not 9's
