@@ -45,8 +45,7 @@ some-blanks (suc k) (suc n) h = ap (λ t. 32 ∷ t) (some-blanks k n (omega arit
 -- ten columns
 feature-count : (n : ℕ) → length (rightIn 10 (decimal n)) ≡ 10
 unfolding rightIn
-feature-count n =
-    omega (arith, decimal-count n, length-append (replicate (10 - length (decimal n)) 32) (decimal n), length-replicate {A = ℕ} (10 - length (decimal n)) 32)
+feature-count n = simp (length-append, length-replicate) (omega (arith, decimal-count n))
 
 pub feature-length : (n : ℕ) → length (field (rightIn 10 (decimal n)) 32) ≡ 11
 feature-length n = omega (arith, field-count (rightIn 10 (decimal n)) 32, feature-count n)

@@ -1,5 +1,6 @@
 -- The calendar's promises.
 use mathlib.Core.Path.{_≡_, refl, ap, sym, _∙_}
+use mathlib.Core.Bool.{true, false}
 use Prim.Native.Nat.{ℕ, zero, suc, _+_, _-_, _≤_}
 use native.Mathlib.Omega.{arith}
 use Rattle.calendar.specs.Calendar.{Date, date, leap, monthDays, tomorrow, dateAfter, dateOf, lastDated}
@@ -44,5 +45,13 @@ last-date : dateOf lastDated ≡ date 2099 12 31
 unfolding dateOf leap monthDays yearDays yearsDays monthsDays
 last-date = counted 99 11 30 (omega arith) (omega arith)
 
+leap-years : (leap 2000 ≡ true) × (leap 2004 ≡ true) × (leap 2400 ≡ true)
+unfolding leap
+leap-years = (refl, refl, refl)
+
+other-years : (leap 1900 ≡ false) × (leap 2001 ≡ false) × (leap 2100 ≡ false)
+unfolding leap
+other-years = (refl, refl, refl)
+
 pub calendar : Calendar
-calendar = record { first = first-date; last = last-date; next = next-date; apart = one-date; within = a-date; each = a-day }
+calendar = record { leaps = leap-years; others = other-years; first = first-date; last = last-date; next = next-date; apart = one-date; within = a-date; each = a-day }
