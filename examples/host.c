@@ -1,4 +1,4 @@
-/* A host in C: document 01's Figure 9(b) log, an order, decisions, and the table stored and read back. */
+/* A host in C: document 01's Figure 9(b) log, an order, decisions, a page, and the table stored and read back. */
 #include <stdio.h>
 
 #include "zintukor.h"
@@ -90,6 +90,30 @@ static const uint8_t grants[] = {7, 96, 96, 10, 20};
 /* The same with a renewal that follows on, from day 21 to 30. */
 static const uint8_t renewed[] = {7, 96, 96, 10, 20, 7, 96, 96, 21, 30};
 
+/* A number from 128 to 16383 as bytes. */
+#define TWO(number) (number) % 128 + 128, (number) / 128
+
+/* Grants to group 5, and one to group 2 at (6, 81), which doesn't apply to group 4. */
+static const uint8_t board[] = {
+    7, 96, 96, TWO(9133), TWO(9497),
+    7, 96, 96, TWO(9498), TWO(9862),
+    9, 6, 81, TWO(9498), 0,
+    12, 96, 96, TWO(9679), TWO(10043),
+    TWO(300), 96, 96, TWO(8826), 0,
+};
+
+/* The shift board's page for the pass of a row. A grant has 5 bytes at least. */
+static void print_page(const struct table *t, size_t row, uint32_t day)
+{
+    uint8_t page[sizeof board / 5 * ZINTUKOR_PAGE_LINE];
+    uint64_t answer = zintukor_page(t->l[row], t->r[row], day, board, sizeof board, page, sizeof page);
+    printf("page for %u on day %u:\n", (unsigned)t->id[row], (unsigned)day);
+    if (ZINTUKOR_KIND(answer) == ZINTUKOR_COUNT)
+        fwrite(page, 1, ZINTUKOR_VALUE(answer), stdout);
+    else
+        printf("no %u\n", (unsigned)ZINTUKOR_VALUE(answer));
+}
+
 int main(void)
 {
     static struct table t, back;
@@ -118,6 +142,7 @@ int main(void)
     print_decision(&t, 4, 7, 21, grants, sizeof grants);
     print_decision(&t, 4, 8, 20, grants, sizeof grants);
     print_decision(&t, 4, 7, 20, renewed, sizeof renewed);
+    print_page(&t, 4, 9640);
 
     answer = zintukor_store(COLUMNS(&t), t.count, buffer, sizeof buffer);
     if (ZINTUKOR_KIND(answer) == ZINTUKOR_REFUSED) {

@@ -9,7 +9,7 @@
  * A slice is a pointer and then a length in elements. The pointer is aligned for its
  * elements and is not null, also where the length is 0.
  * - A slice that a call writes overlaps no other slice of the call: the columns do not
- *   overlap each other, the request, the bytes or the buffer.
+ *   overlap each other, the request, the bytes or the buffer, nor the buffer the grants.
  * - Nobody else writes a slice, or reads one that is written, while a call runs.
  * - Past its length nothing of a slice is read or written.
  *
@@ -37,15 +37,19 @@ extern "C" {
 
 /* The version of the library. */
 #define ZINTUKOR_VERSION_MAJOR 0
-#define ZINTUKOR_VERSION_MINOR 2
+#define ZINTUKOR_VERSION_MINOR 3
 #define ZINTUKOR_VERSION_PATCH 0
-#define ZINTUKOR_VERSION "0.2.0"
+#define ZINTUKOR_VERSION "0.3.0"
 
 /* The most rows that columns have. */
 #define ZINTUKOR_MOST_ROWS 256
 
 /* A buffer of so many bytes holds any stored table: 2 for the count, 20 for each row. */
 #define ZINTUKOR_MOST_STORED 5122
+
+/* The bytes of a page's line. A page has a line for each grant that applies; a grant has 5 bytes
+   at least. */
+#define ZINTUKOR_PAGE_LINE 41
 
 /* The two parts of an answer. */
 #define ZINTUKOR_KIND(answer) ((uint32_t)((uint64_t)(answer) >> 32))
@@ -84,6 +88,7 @@ extern "C" {
 #define ZINTUKOR_NO_QUOTA_SUM 23      /* quotas don't add up to the exploded quota */
 #define ZINTUKOR_NO_ROWS_FULL 24      /* count + entries - 1 exceeds the column length */
 #define ZINTUKOR_NO_BUFFER_SHORT 30   /* buffer shorter than the bytes needed */
+#define ZINTUKOR_NO_UNDATED 31        /* a grant's first or last day has no date: it is above 36525 */
 
 /*
  * Writes row 0: the group at l = 1 and r = 1 with the quota. Other rows stay.
@@ -138,6 +143,22 @@ uint64_t zintukor_order(const uint32_t *id, size_t id_length,
  */
 uint64_t zintukor_decide(uint32_t feature, uint32_t l, uint32_t r, uint32_t day,
                          const uint8_t *grants, size_t grants_length);
+
+/*
+ * Writes a page for the shift board, for a pass (l, r) and a day from 1 on: a line for each grant
+ * that applies to the pass, of any feature, in the order of the list. The grants' bytes are as
+ * for zintukor_decide. Bytes after the page stay; no 0 is put after it.
+ * A line has ZINTUKOR_PAGE_LINE bytes: the feature, right-aligned in 10 columns; the first day's
+ * date, as 2000-01-31; the last day's, or `open`, left-aligned in 10; `on`, `ended` or `ahead`,
+ * of this grant by itself, left-aligned in 7; one space between them; and a line feed. Day 1 is
+ * 2000-01-01 and day 36525 is 2099-12-31; the day asked about may be later.
+ * Answers COUNT and the byte count. Refusals: 15 for l, r or day 0; then 1, 2, 14 and 31 from
+ * left to right, also for a grant that does not apply; then 30.
+ * Of a buffer longer than 4294967295 bytes the first 4294967295 are used: 30 for a longer page.
+ */
+uint64_t zintukor_page(uint32_t l, uint32_t r, uint32_t day,
+                       const uint8_t *grants, size_t grants_length,
+                       uint8_t *buffer, size_t buffer_length);
 
 /*
  * Writes the table as bytes: count, then id, l, r, q of each row. Bytes after them stay.

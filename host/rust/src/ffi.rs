@@ -47,6 +47,15 @@ extern "C" {
         grants: *const u8,
         grants_length: usize,
     ) -> u64;
+    pub(crate) fn zintukor_page(
+        l: u32,
+        r: u32,
+        day: u32,
+        grants: *const u8,
+        grants_length: usize,
+        buffer: *mut u8,
+        buffer_length: usize,
+    ) -> u64;
     pub(crate) fn zintukor_store(
         id: *const u32,
         id_length: usize,

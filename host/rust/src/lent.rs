@@ -1,4 +1,5 @@
-//! The calls on four lent columns, for a host that keeps the columns in a place of its own.
+//! The calls on four lent columns and lent buffers, for a host that keeps them in a place of its
+//! own.
 //!
 //! Rows past the count have no meaning and are not read. A refused call leaves everything as it
 //! found it; an accepted one writes what its comment says and nothing else.
@@ -155,4 +156,15 @@ pub fn decide(feature: u32, l: u32, r: u32, day: u32, grants: &[u8]) -> Result<D
     // SAFETY: the pointer and length of a slice, which the engine only reads.
     let answered = unsafe { ffi::zintukor_decide(feature, l, r, day, grants.as_ptr(), grants.len()) };
     answer::decision(answered)
+}
+
+/// Writes the page for a pass (l, r) and a day into the buffer, from a grant list's bytes, and
+/// answers the byte count; bytes after it stay. Of a buffer longer than 4294967295 bytes the
+/// first 4294967295 are used.
+pub fn page(l: u32, r: u32, day: u32, grants: &[u8], buffer: &mut [u8]) -> Result<usize, Refusal> {
+    // SAFETY: pointers and lengths of slices; the buffer, which is written, doesn't overlap the grants.
+    let answered = unsafe {
+        ffi::zintukor_page(l, r, day, grants.as_ptr(), grants.len(), buffer.as_mut_ptr(), buffer.len())
+    };
+    answer::count(answered)
 }

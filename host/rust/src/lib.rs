@@ -7,7 +7,7 @@
 //! crate links it and gives its answers as Rust types.
 //!
 //! ```
-//! use zintukor::{decide, entry, grants, Decision, Grant, Order, Request, Table};
+//! use zintukor::{decide, entry, grants, page, Decision, Grant, Order, Request, Table};
 //!
 //! // Carrier 1 has 100 numbers to give out. It becomes 1, with regions 2 and 3 above it.
 //! let mut table = Table::fresh(256, 1, 100)?;
@@ -23,7 +23,15 @@
 //!
 //! // A renewal that follows on, from day 21 to day 30, counts at once.
 //! let renewal = Grant::new(7, region, 21).until(30);
-//! assert_eq!(decide(7, pass, 15, &grants(&[sold, renewal]))?, Decision::OnUntil(30));
+//! let list = grants(&[sold, renewal]);
+//! assert_eq!(decide(7, pass, 15, &list)?, Decision::OnUntil(30));
+//!
+//! // The carrier's page for the shift board on that day: each grant with its dates.
+//! let lines = [
+//!     "         7 2000-01-10 2000-01-20 on     \n",
+//!     "         7 2000-01-21 2000-01-30 ahead  \n",
+//! ];
+//! assert_eq!(page(pass, 15, &list)?, lines.concat());
 //! # Ok::<(), zintukor::Refusal>(())
 //! ```
 //!
@@ -41,6 +49,7 @@ mod grant;
 pub mod lent;
 mod number;
 mod order;
+mod page;
 mod refusal;
 mod request;
 mod table;
@@ -50,6 +59,7 @@ pub use decision::Decision;
 pub use grant::{decide, grants, Grant, Pass};
 pub use number::write_number;
 pub use order::Order;
+pub use page::page;
 pub use refusal::Refusal;
 pub use request::{entry, Entry, Request};
 pub use table::{Row, Table};
@@ -62,3 +72,6 @@ pub const ROWS: usize = 256;
 
 /// The greatest depth of an entry; a root has depth 1.
 pub const DEPTH: usize = 16;
+
+/// The bytes of a page's line, its line feed included.
+pub const PAGE_LINE: usize = 41;

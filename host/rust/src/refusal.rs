@@ -4,7 +4,7 @@ use std::fmt;
 
 macro_rules! refusals {
     ($($name:ident = $number:literal, $text:literal;)*) => {
-        /// Why a call was refused. Each refusal has the number that document 01 gives it.
+        /// Why a call was refused. Each refusal has the number that the documents give it.
         #[derive(Clone, Copy, PartialEq, Eq, PartialOrd, Ord, Hash, Debug)]
         pub enum Refusal {
             $(
@@ -54,11 +54,12 @@ refusals! {
     IdTaken = 22, "a new group's id is in the table already or comes twice in the request";
     QuotaSum = 23, "the entries' quotas don't add up to the quota of the group to break up";
     RowsFull = 24, "the columns have too few rows for the new groups";
-    BufferShort = 30, "the buffer is too short for the stored table";
+    BufferShort = 30, "the buffer is too short for the stored table or the page";
+    Undated = 31, "a grant's first or last day has no date: it is above 36525";
 }
 
 impl Refusal {
-    /// Its number in document 01.
+    /// Its number in the documents.
     pub const fn number(self) -> u32 {
         self as u32
     }

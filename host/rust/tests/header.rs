@@ -1,9 +1,10 @@
 //! Names, numbers and version are those of include/zintukor.h and of the engine's source.
 
-use zintukor::{Refusal, ROWS, VERSION};
+use zintukor::{Refusal, PAGE_LINE, ROWS, VERSION};
 
 const HEADER: &str = include_str!("../../../include/zintukor.h");
 const ENGINE: &str = include_str!("../../../crates/rules/src/lib.rt");
+const BOARD: &str = include_str!("../../../crates/board/src/lib.rt");
 
 /// The header's macros without parameters: name and value.
 fn macros() -> impl Iterator<Item = (&'static str, &'static str)> {
@@ -58,4 +59,6 @@ fn one_name_for_each_refusal() {
 fn one_limit() {
     assert_eq!(value("MOST_ROWS"), ROWS.to_string());
     assert_eq!(value("MOST_STORED"), (2 + 20 * ROWS).to_string());
+    assert_eq!(value("PAGE_LINE"), PAGE_LINE.to_string());
+    assert!(BOARD.contains(&format!("const LINE: usize = {PAGE_LINE};")));
 }

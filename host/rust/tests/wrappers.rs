@@ -8,7 +8,7 @@ use zintukor::{Decision, Grant, Order, Pass, Refusal, Request, Table};
 
 #[test]
 fn each_refusal_has_its_number_and_its_text() {
-    let numbers = [1, 2, 3, 4, 5, 6, 7, 10, 11, 12, 13, 14, 15, 20, 21, 22, 23, 24, 30];
+    let numbers = [1, 2, 3, 4, 5, 6, 7, 10, 11, 12, 13, 14, 15, 20, 21, 22, 23, 24, 30, 31];
     let all: Vec<u32> = Refusal::ALL.iter().map(|refusal| refusal.number()).collect();
     assert_eq!(all, numbers);
     for number in (0..=1_000).chain([u32::MAX]) {
@@ -20,7 +20,7 @@ fn each_refusal_has_its_number_and_its_text() {
     let texts: HashSet<&str> = Refusal::ALL.iter().map(|refusal| refusal.text()).collect();
     assert_eq!(texts.len(), numbers.len());
     let error: Box<dyn Error> = Refusal::BufferShort.into();
-    assert_eq!(error.to_string(), "refused (30): the buffer is too short for the stored table");
+    assert_eq!(error.to_string(), "refused (30): the buffer is too short for the stored table or the page");
 }
 
 #[test]
