@@ -35,7 +35,7 @@ pub struct Grant {
 impl Grant {
     /// Five numbers, and then 14: feature, l, r or first is 0, or last is not 0 and below first.
     #[inline]
-    fn read(reader: &mut Reader) -> Result<Grant, Refused> {
+    pub(crate) fn read(reader: &mut Reader) -> Result<Grant, Refused> {
         let grant = Grant {
             feature: reader.number()?,
             l: reader.number()?,

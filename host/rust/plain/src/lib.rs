@@ -1,5 +1,5 @@
-//! Document 01 and note 1 of document 02 in plain Rust, written from their sentences and from
-//! nothing else.
+//! Document 01 and notes 1 and 2 of document 02 in plain Rust, written from their sentences and
+//! from nothing else.
 //!
 //! The tests compare the engine with it, answer by answer and column by column, and the
 //! benchmark takes its times as the measure. It is no part of what a host links.
@@ -10,6 +10,7 @@
 mod decide;
 mod ledger;
 mod number;
+mod page;
 mod refine;
 mod request;
 mod stored;
@@ -18,12 +19,13 @@ mod table;
 pub use decide::{decide, Decision, Grant, Tally};
 pub use ledger::{GroupGrant, Ledger};
 pub use number::{write_number, Reader};
+pub use page::page;
 pub use refine::refine;
 pub use request::{Entry, Request};
 pub use stored::{read, store};
 pub use table::{check, fresh, order, Order};
 
-/// A refusal, by its number in document 01.
+/// A refusal, by its number in the documents.
 #[derive(Clone, Copy, PartialEq, Eq, Debug)]
 pub struct Refused(pub u32);
 
