@@ -38,7 +38,7 @@ impl List<'_> {
     }
 
     fn step(&mut self) {
-        match self.rng.below(13) {
+        match self.rng.below(14) {
             0..=2 => self.refine_sound(),
             3 | 4 => self.refine_damaged(),
             5 => self.refine_too_big(),
@@ -47,7 +47,8 @@ impl List<'_> {
             9 => self.store(),
             10 => self.read(),
             11 => self.fresh(),
-            _ => self.decide(),
+            12 => self.decide(),
+            _ => self.page(),
         }
     }
 
@@ -212,12 +213,6 @@ impl List<'_> {
         let (l, r) = (l[row], r[row]);
         let feature = rng.pick(&[1, 2, 200, u32::MAX]);
         let how_many = if rng.once_in(30) { 500 } else { rng.below(9) };
-        let near = |rng: &mut Rng, x: u32| match rng.below(6) {
-            0 => x.saturating_sub(1).max(1),
-            1 => x.saturating_add(1),
-            2 => rng.number().max(1),
-            _ => x,
-        };
         let (day, windows) = if rng.once_in(2) {
             let windows = windows::windows(rng, how_many);
             (windows::day(rng, &windows), windows)
@@ -261,14 +256,87 @@ impl List<'_> {
         let cut = list.len().saturating_sub(1);
         self.both.decide(feature, Pass { l, r }, day, &list[..cut]);
     }
+
+    /// A page over grants of any feature, of which about half apply to the pass of a group, into a
+    /// buffer of just the size, too short, or longer.
+    fn page(&mut self) {
+        let rng = &mut self.rng;
+        let row = rng.below(self.count);
+        let [_, l, r, _] = self.lent.parts();
+        let (l, r) = (l[row], r[row]);
+        let how_many = if rng.once_in(30) { 500 } else { rng.below(9) };
+        let day = if rng.once_in(4) { rng.number().max(1) } else { rng.between(1, LAST_DATED + 2) };
+        let mut numbers = Vec::new();
+        let mut lines = 0;
+        for _ in 0..how_many {
+            let place = [near(rng, l), near(rng, r)];
+            lines += usize::from(l <= place[0] && r <= place[1]);
+            let first = dated(rng, day);
+            let last = match rng.below(5) {
+                0 => 0,
+                1 => first,
+                _ => dated(rng, day).max(first),
+            };
+            numbers.extend([rng.number().max(1), place[0], place[1], first, last]);
+        }
+        let needed = zintukor::PAGE_LINE * lines;
+        let room = |rng: &mut Rng| {
+            let any = rng.below(needed + 1);
+            let sizes = [needed, needed, needed.saturating_sub(1), needed + 1, needed + 40, 0, any];
+            let size = rng.pick(&sizes);
+            tables::buffer(rng, size)
+        };
+        let mut buffer = room(rng);
+        let fits = buffer.len() >= needed;
+        let answer = self.both.page(Pass { l, r }, day, &encode(&numbers), &mut buffer);
+        assert_eq!(answer, if fits { Answer::Count(needed) } else { Answer::Refused(30) });
+        // The same with a broken grant or question.
+        let mut question = [l, r, day];
+        if !numbers.is_empty() {
+            let at = rng.below(numbers.len());
+            numbers[at] = rng.pick(&[0, LAST_DATED + 1, LAST_DATED, u32::MAX]);
+        }
+        if rng.once_in(4) {
+            question[rng.below(3)] = rng.pick(&[0, 1, u32::MAX]);
+        }
+        let list = if rng.once_in(2) { damaged(rng, &numbers) } else { encode(&numbers) };
+        let [l, r, day] = question;
+        let cut = list.len().saturating_sub(1);
+        for list in [&list, &list[..cut]] {
+            self.both.page(Pass { l, r }, day, list, &mut room(rng));
+        }
+    }
 }
 
+/// A number near another, not 0.
+fn near(rng: &mut Rng, x: u32) -> u32 {
+    match rng.below(6) {
+        0 => x.saturating_sub(1).max(1),
+        1 => x.saturating_add(1),
+        2 => rng.number().max(1),
+        _ => x,
+    }
+}
+
+/// A day with a date, not 0: often one at an end of the range or of a year, or the day given.
+fn dated(rng: &mut Rng, day: u32) -> u32 {
+    match rng.below(6) {
+        0 => rng.pick(&[1, 59, 60, 61, 366, 367, LAST_DATED - 1, LAST_DATED]),
+        1 | 2 => near(rng, day).clamp(1, LAST_DATED),
+        _ => rng.between(1, LAST_DATED),
+    }
+}
+
+/// The last day with a date.
+const LAST_DATED: u32 = 36_525;
+
 /// The refusals that each call can give, and its other answers.
-const CALLS: [(&str, &[u32], &[&str]); 6] = [
+const CALLS: [(&str, &[u32], &[&str]); 7] = [
     ("fresh", &[10, 11], &["count"]),
     ("refine", &[1, 2, 3, 4, 5, 6, 7, 10, 11, 12, 13, 20, 21, 22, 23, 24], &["count"]),
     ("order", &[10, 11, 12, 13, 20], &["same", "first", "second", "incomparable"]),
     ("decide", &[1, 2, 14, 15], &["open", "until", "ended", "ahead", "never"]),
+    ("page", &[1, 2, 14, 15, 30, 31], &["count"]),
     ("store", &[10, 11, 12, 13, 30], &["count"]),
     ("read", &[1, 2, 6, 10, 11, 12, 13], &["count"]),
 ];

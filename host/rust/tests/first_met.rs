@@ -1,6 +1,6 @@
-//! Where two conditions are met, the first counts: document 01's order of checks, written out.
+//! Where two conditions are met, the first counts: the documents' order of checks, written out.
 
-use zintukor::{decide, fresh, order, read, refine, store, Columns, Pass};
+use zintukor::{decide, fresh, lent, order, page, read, refine, store, Columns, Pass};
 
 /// Columns from rows (id, l, r, q), as long as the rows are many.
 fn columns(rows: &[[u32; 4]]) -> Columns {
@@ -143,6 +143,46 @@ fn questions_and_grants() {
     ] {
         refused(decide(1, pass, 1, grants), number);
     }
+}
+
+/// The list's refusals come before the buffer's; 14 before 31 in a grant, and the first bad grant counts.
+#[test]
+fn pages() {
+    // Day 36526, which has no date, as three bytes.
+    const LATE: [u8; 3] = [0xAE, 0x9D, 2];
+    let late = |before: &[u8], after: &[u8]| [before, &LATE, after].concat();
+    for (l, r, day) in [(0, 1, 1), (1, 0, 1), (1, 1, 0), (0, 0, 0)] {
+        for list in [&[][..], &[0x80, 0], &[0], &[0; 5], &late(&[1, 1, 1], &[0]), &[1, 1, 1, 1, 0]] {
+            refused(page(Pass { l, r }, day, list), 15);
+            refused(lent::page(l, r, day, list, &mut []), 15);
+        }
+    }
+    for (list, number) in [
+        (vec![1, 1, 1, 1], 1),
+        (vec![0, 0, 0, 0], 1),
+        (vec![0, 0, 0, 0, 0x80, 0], 2),
+        (vec![0, 1, 1, 1, 0], 14),
+        (late(&[1, 1, 1], &[]), 1),
+        (late(&[1, 1, 1], &[0x80, 0]), 2),
+        (late(&[0, 1, 1], &[0]), 14),
+        (late(&[1, 1, 1], &[1]), 14),
+        (late(&[1, 1, 1, 0], &[]), 14),
+        (late(&[1, 1, 1], &[0]), 31),
+        (late(&[1, 1, 1, 1], &[]), 31),
+        (late(&[1, 1, 1, 1], &[0]), 31),
+        (late(&[1, 1, 1, 1], &[1, 1, 1, 2, 1]), 31),
+        (late(&[1, 1, 1, 2, 1, 1, 1, 1, 1], &[]), 14),
+        (late(&[1, 1, 1, 1, 0, 1, 1, 1, 1], &[]), 31),
+        (vec![1, 1, 1, 1, 0, 1], 1),
+    ] {
+        // Whether the grants apply or not, and whatever the buffer's length.
+        for (l, r) in [(1, 1), (2, 1), (1, 2)] {
+            refused(page(Pass { l, r }, 1, &list), number);
+            refused(lent::page(l, r, 1, &list, &mut []), number);
+            refused(lent::page(l, r, 1, &list, &mut [0; 100]), number);
+        }
+    }
+    refused(lent::page(1, 1, 1, &[1, 1, 1, 1, 0], &mut [0; 40]), 30);
 }
 
 #[test]

@@ -3,6 +3,7 @@
 use std::collections::BTreeMap;
 
 use super::guarded::{Guarded, Lent};
+use zintukor::Pass;
 
 /// An answer of either version.
 #[derive(Clone, Copy, PartialEq, Eq, PartialOrd, Ord, Debug)]
@@ -186,10 +187,33 @@ impl Both {
         engine
     }
 
-    pub fn decide(&mut self, feature: u32, pass: zintukor::Pass, day: u32, grants: &[u8]) -> Answer {
+    pub fn decide(&mut self, feature: u32, pass: Pass, day: u32, grants: &[u8]) -> Answer {
         let engine = of_engine(zintukor::decide(feature, pass, day, grants));
         let plain = of_plain(zintukor_plain::decide(feature, pass.l, pass.r, day, grants));
         self.compare("decide", engine, plain);
+        engine
+    }
+
+    /// The call on a lent buffer, and the one that gives a page as text.
+    pub fn page(&mut self, pass: Pass, day: u32, grants: &[u8], buffer: &mut Guarded<u8>) -> Answer {
+        let before = buffer.clone();
+        let mut other = buffer.clone();
+        let Pass { l, r } = pass;
+        let engine = of_engine(zintukor::lent::page(l, r, day, grants, buffer.part_mut()));
+        let plain = of_plain(zintukor_plain::page(l, r, day, grants, other.part_mut()));
+        let refused = self.compare("page", engine, plain);
+        buffer.assert_is(&other, "page: buffer");
+        if refused {
+            buffer.assert_is(&before, "page refused: buffer");
+        }
+        match (engine, zintukor::page(pass, day, grants)) {
+            (Answer::Count(length), text) => {
+                assert_eq!(text.as_ref().map(String::as_bytes), Ok(&buffer.part()[..length]));
+            }
+            // As text, a page has room.
+            (Answer::Refused(30), text) => assert!(text.is_ok_and(|text| text.len() > buffer.len())),
+            (refused, text) => assert_eq!(of_engine(text.map(|text| text.len())), refused),
+        }
         engine
     }
 }

@@ -1,9 +1,10 @@
 //! What the tests share: random numbers, guarded columns, requests, tables and windows made at random,
-//! and the two implementations called side by side.
+//! the two implementations called side by side, and the C library's calendar.
 #![allow(dead_code)]
 
 pub mod both;
 pub mod bytes;
+pub mod calendar;
 pub mod guarded;
 pub mod requests;
 pub mod rng;
