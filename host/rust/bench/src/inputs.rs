@@ -80,6 +80,24 @@ pub fn grants(table: &Table, how_many: usize) -> Vec<Grant> {
         .collect()
 }
 
+/// Grants of 40 features of which each other one applies to the pass: days in some years, one in
+/// ten open.
+pub fn half(pass: Pass, how_many: usize) -> Vec<Grant> {
+    let mut rng = Rng::new(17);
+    (0..how_many)
+        .map(|at| {
+            let l = if at % 2 == 0 { rng.between(pass.l, 2 * pass.l) } else { rng.between(1, pass.l - 1) };
+            let first = rng.between(9_000, 10_500);
+            let grant = Grant::new(rng.between(1, 40), Pass { l, r: pass.r }, first);
+            if rng.below(10) == 0 {
+                grant
+            } else {
+                grant.until(first + rng.between(0, 700))
+            }
+        })
+        .collect()
+}
+
 /// Grants of a feature that follow on, 30 days each, the first of them from a day on.
 pub fn chain(feature: u32, group: Pass, day: u32, how_many: u32) -> Vec<Grant> {
     let grant = |k: u32| Grant::new(feature, group, day + 30 * k).until(day + 30 * k + 29);

@@ -80,6 +80,36 @@ fn decides() {
     }
 }
 
+/// A page on day 10,000 into a buffer of just its size; the time is per grant.
+fn page(sizes: &mut Sizes, size: &str, pass: Pass, grants: &[Grant]) {
+    let list = zintukor::grants(grants);
+    let day = 10_000;
+    let Pass { l, r } = pass;
+    let text = zintukor::page(pass, day, &list).unwrap();
+    let (mut one, mut other) = (vec![0; text.len()], vec![0; text.len()]);
+    let times = compare_reading(
+        || zintukor::lent::page(black_box(l), r, day, black_box(&list), &mut one),
+        || zintukor_plain::page(black_box(l), r, day, black_box(&list), &mut other),
+    );
+    assert_eq!(one, text.as_bytes());
+    assert_eq!(other, one);
+    sizes.unit = grants.len() as f64;
+    sizes.row(&format!("{size}, per grant"), times);
+}
+
+fn pages() {
+    let pass = Pass { l: 1_000, r: 1_000 };
+    let mut sizes = Sizes::new("page");
+    for how_many in [10, 1_000, 100_000] {
+        page(&mut sizes, &format!("{how_many} grants, half apply"), pass, &inputs::half(pass, how_many));
+    }
+    // What a grant that applies and one that doesn't take.
+    let half = inputs::half(pass, 1_000);
+    let (apply, aside): (Vec<Grant>, Vec<Grant>) = half.iter().partition(|grant| pass.l <= grant.group.l);
+    page(&mut Sizes::new("page"), "all apply", pass, &apply);
+    page(&mut Sizes::new("page"), "none applies", pass, &aside);
+}
+
 fn refine(sizes: &mut Sizes, table: &Table, entries: u32) {
     let request = inputs::request(table, entries);
     let count = table.count();
@@ -160,6 +190,7 @@ fn main() {
     }
     println!("{:<8}{:<36}{:>12}{:>12}{:>8}{:>9}", "call", "size", "engine ns", "plain ns", "ratio", "growth");
     decides();
+    pages();
     refines();
     order();
     store_and_read();
