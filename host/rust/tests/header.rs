@@ -5,6 +5,8 @@ use zintukor::{Refusal, PAGE_LINE, ROWS, VERSION};
 const HEADER: &str = include_str!("../../../include/zintukor.h");
 const ENGINE: &str = include_str!("../../../crates/rules/src/lib.rt");
 const BOARD: &str = include_str!("../../../crates/board/src/lib.rt");
+const CALLS: &str = include_str!("../../../crates/zintukor/src/lib.rt");
+const DECLARED: &str = include_str!("../src/ffi.rs");
 
 /// The header's macros without parameters: name and value.
 fn macros() -> impl Iterator<Item = (&'static str, &'static str)> {
@@ -53,6 +55,20 @@ fn one_name_for_each_refusal() {
         })
         .collect();
     assert_eq!(rust, engine);
+}
+
+/// The names of calls, in their order: what stands between `before` at a line's start and its bracket.
+fn calls(source: &str, before: &str) -> Vec<String> {
+    let named = source.lines().filter_map(|line| line.trim().strip_prefix(before)?.split_once('('));
+    named.map(|(name, _)| name.to_string()).collect()
+}
+
+#[test]
+fn one_declaration_for_each_call() {
+    let engine = calls(CALLS, "pub extern \"C\" fn ");
+    assert_eq!(engine.len(), 7);
+    assert_eq!(calls(HEADER, "uint64_t "), engine);
+    assert_eq!(calls(DECLARED, "pub(crate) fn "), engine);
 }
 
 #[test]
