@@ -1,7 +1,7 @@
 -- A line's fields, written one after another.
 use mathlib.Core.Path.{_≡_, refl, ap, sym, _∙_}
 use mathlib.Core.Bool.{Bool, true, false, cond, not, _&&_, _||_}
-use mathlib.Core.List.{List, [], _∷_, _++_, append-nil}
+use mathlib.Core.List.{List, [], _∷_, append-nil}
 use Prim.Native.Nat.{ℕ, zero, suc, _+_, _-_, _<_, _≤_}
 use native.Mathlib.Omega.{arith}
 use lib.Dec.{eqb, leb, ltb}
@@ -65,7 +65,7 @@ feature-written buffer at n h b e f =
 -- ## The dates
 
 -- a date fills its ten columns
-pub date-fills : (t : Date) → leftIn 10 (dateText t) ≡ dateText t
+date-fills : (t : Date) → leftIn 10 (dateText t) ≡ dateText t
 unfolding leftIn
 date-fills t = rw (date-count t) (append-nil (dateText t))
 

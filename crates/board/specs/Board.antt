@@ -1,4 +1,4 @@
--- A grant's line on the shift board (RULES.md, 11.2): feature, first date, last date and state, one space between them, and a line feed.
+-- A grant's line on the shift board (RULES.md, 18.2): feature, first date, last date and state, one space between them, and a line feed.
 use Prim.Native.Nat.{ℕ, _-_}
 use mathlib.Core.Bool.{Bool, cond, _||_}
 use mathlib.Core.List.{List, [], _∷_, _++_}

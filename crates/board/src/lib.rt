@@ -1,4 +1,4 @@
-// A grant's line on the shift board (RULES.md, 11.2), written into a lent buffer.
+// A grant's line on the shift board (RULES.md, 18.2), written into a lent buffer.
 mod fields;
 
 ghost use mathlib.Core.Path.{_≡_};

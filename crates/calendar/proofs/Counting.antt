@@ -1,11 +1,11 @@
 -- Dates counted by years, months and days: the date so many days after 2000-01-01, and how many days a date comes after it.
-use mathlib.Core.Path.{_≡_, refl, ap, sym, _∙_}
+use mathlib.Core.Path.{_≡_, refl, ap, _∙_}
 use mathlib.Core.Bool.{Bool, true, false, cond, _||_}
 use Prim.Native.Nat.{ℕ, zero, suc, _+_, _-_, _<_, _≤_}
 use native.Mathlib.Nat.{add-zero, add-suc}
 use native.Mathlib.Numerals.{add-one}
 use native.Mathlib.Omega.{arith}
-use lib.Dec.{eqb, ltb}
+use lib.Dec.{eqb}
 use borrow.Author.Tests.{lt-ltb, le-ltb}
 use Rattle.rules.proofs.Cases.{by-lt}
 use Rattle.calendar.specs.Calendar.{Date, date, leap, monthDays, tomorrow, dateAfter}
@@ -15,15 +15,15 @@ use Rattle.calendar.specs.Promise.{InCalendar}
 -- ## Tomorrow
 
 module _ (y m d : ℕ) where
-  pub next-day : d < monthDays (leap y) m → tomorrow (date y m d) ≡ date y m (d + 1)
+  next-day : d < monthDays (leap y) m → tomorrow (date y m d) ≡ date y m (d + 1)
   unfolding tomorrow
   next-day h = rw (lt-ltb _ _ h)
 
-  pub next-month : monthDays (leap y) m ≤ d → m < 12 → tomorrow (date y m d) ≡ date y (m + 1) 1
+  next-month : monthDays (leap y) m ≤ d → m < 12 → tomorrow (date y m d) ≡ date y (m + 1) 1
   unfolding tomorrow
   next-month h k = rw (le-ltb _ _ h, lt-ltb _ _ k)
 
-  pub next-year : monthDays (leap y) m ≤ d → 12 ≤ m → tomorrow (date y m d) ≡ date (y + 1) 1 1
+  next-year : monthDays (leap y) m ≤ d → 12 ≤ m → tomorrow (date y m d) ≡ date (y + 1) 1 1
   unfolding tomorrow
   next-year h k = rw (le-ltb _ _ h, le-ltb _ _ k)
 

@@ -1,7 +1,7 @@
 -- The calendar's promises.
 use mathlib.Core.Path.{_≡_, refl, ap, sym, _∙_}
 use mathlib.Core.Bool.{true, false}
-use Prim.Native.Nat.{ℕ, zero, suc, _+_, _-_, _≤_}
+use Prim.Native.Nat.{ℕ, suc, _+_, _-_, _≤_}
 use native.Mathlib.Omega.{arith}
 use Rattle.calendar.specs.Calendar.{Date, date, leap, monthDays, tomorrow, dateAfter, dateOf, lastDated}
 use Rattle.calendar.specs.Years.{yearDays, yearsDays, monthsDays}

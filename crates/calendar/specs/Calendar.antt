@@ -1,4 +1,4 @@
--- The calendar (RULES.md, 11.1): leap years, months, and a day's date by counting from 2000-01-01.
+-- The calendar (RULES.md, 18.1): leap years, months, and a day's date by counting from 2000-01-01.
 use Prim.Native.Nat.{ℕ, zero, suc, _+_, _-_, _%_}
 use mathlib.Core.Bool.{Bool, cond, not, _&&_, _||_}
 use lib.Dec.{eqb, ltb}

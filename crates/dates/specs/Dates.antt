@@ -1,4 +1,4 @@
--- A day's date as text (RULES.md, 11.1): year-month-day as 2000-01-01.
+-- A day's date as text (RULES.md, 18.1): year-month-day as 2000-01-01.
 use Prim.Native.Nat.{ℕ, _+_, _/_, _%_}
 use mathlib.Core.Bool.{cond}
 use mathlib.Core.List.{List, [], _∷_, _++_}

@@ -1,4 +1,4 @@
-// The date of a day as text (RULES.md, 11.1): the year by a table of first days, the month by the months' lengths.
+// The date of a day as text (RULES.md, 18.1): the year by a table of first days, the month by the months' lengths.
 mod digits;
 mod finding;
 mod years;

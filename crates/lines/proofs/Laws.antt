@@ -2,16 +2,13 @@
 use mathlib.Core.Path.{_≡_, refl, ap, sym, _∙_}
 use mathlib.Core.Bool.{true, false}
 use mathlib.Core.List.{List, [], _∷_, _++_, flatMap}
-use Prim.Native.Nat.{ℕ, _+_, _*_, _-_, _<_, _≤_}
+use Prim.Native.Nat.{ℕ, _+_, _*_, _<_, _≤_}
 use native.Mathlib.Omega.{arith}
-use lib.Dec.{ltb}
 use lib.ListN.{length, set, length-append}
-use borrow.Author.Tests.{lt-ltb, le-ltb}
 use Rattle.rules.specs.Answers.{Answer, answer, refused}
 use Rattle.rules.specs.Buffers.{written, after}
 use Rattle.rules.proofs.Bools.{or-none}
 use Rattle.rules.proofs.Buffers.{written-all, kept, after-all, after-same, after-then}
-use Rattle.rules.proofs.Cases.{by-lt}
 use Rattle.rules.proofs.Pieces.{flat-more, flat-most, length-four}
 use Rattle.text.specs.Decimal.{decimal}
 use Rattle.text.proofs.Laws.{decimal-count}

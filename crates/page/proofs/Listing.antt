@@ -1,11 +1,11 @@
 -- A page's list: its reader, and how many lines it has from a position on.
 use mathlib.Core.Path.{_≡_, ap, sym, _∙_}
 use mathlib.Core.Bool.{true, false}
-use mathlib.Core.List.{List, [], _∷_}
+use mathlib.Core.List.{List}
 use Prim.Native.Nat.{ℕ, _+_, _<_, _≤_}
 use native.Mathlib.Omega.{arith}
 use lib.ListN.{length}
-use Rattle.rules.specs.Answers.{Answer, answer, refused, then}
+use Rattle.rules.specs.Answers.{Answer, answer, refused}
 use Rattle.rules.proofs.Answers.{same-answer, then-answer, then-same, peel}
 use Rattle.grant.specs.Grant.{Grant, GrantRead, grantAt, grantsBy}
 use Rattle.grant.proofs.Listing.{GrantStands, grant-stands, GoesOn}

@@ -6,7 +6,7 @@ use Prim.Native.Nat.{ℕ, _+_, _*_, _/_, _<_, _≤_}
 use native.Mathlib.Nat.{mul-suc}
 use native.Mathlib.Omega.{arith}
 use lib.ListN.{length, length-append}
-use Rattle.rules.specs.Answers.{Answer, answer, refused, then, orElse}
+use Rattle.rules.specs.Answers.{answer, refused}
 use Rattle.rules.specs.Buffers.{written, after}
 use Rattle.rules.proofs.Answers.{same-answer, then-answer, then-refused, never-refused}
 use Rattle.rules.proofs.Cases.{by-lt}

@@ -1,4 +1,4 @@
--- A page for the shift board (RULES.md, 11): one line for each grant that applies to the pass, of any feature, in list order.
+-- A page for the shift board (RULES.md, 18): one line for each grant that applies to the pass, of any feature, in list order.
 use Prim.Native.Nat.{ℕ}
 use mathlib.Core.Bool.{Bool, cond, _||_}
 use mathlib.Core.List.{List, [], _∷_, flatMap}

@@ -1,4 +1,4 @@
-// A page for the shift board (RULES.md, 11): a line for each grant that applies to a pass, written into a lent buffer. The list is read
+// A page for the shift board (RULES.md, 18): a line for each grant that applies to a pass, written into a lent buffer. The list is read
 // twice, once for its refusals and the number of lines, and once to write them; no grant is held.
 ghost use mathlib.Core.Path.{_≡_};
 ghost use Rattle.rules.specs.Buffers.{after};

@@ -1,5 +1,5 @@
 -- `dates::finding::date_of` meets its contract: the year, and then the days after its first.
-use mathlib.Core.Path.{ap, sym, _∙_}
+use mathlib.Core.Path.{ap, _∙_}
 use native.Mathlib.Omega.{arith}
 use borrow.Author.Needs.{needs}
 use Rattle.calendar.specs.Calendar.{leap, dateAfter, dateOf}

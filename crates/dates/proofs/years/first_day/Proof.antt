@@ -1,6 +1,5 @@
 -- `dates::years::first_day` meets its contract: the table's test is computed.
 use mathlib.Core.Path.{refl, _∙_}
-use native.Mathlib.Omega.{arith}
 use borrow.Author.Needs.{needs}
 use Rattle.calendar.specs.Calendar.{leap}
 use Rattle.calendar.specs.Years.{yearDays, yearsDays, firstDay}
