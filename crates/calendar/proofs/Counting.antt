@@ -1,6 +1,6 @@
 -- Dates counted by years, months and days: the date so many days after 2000-01-01, and how many days a date comes after it.
 use mathlib.Core.Path.{_≡_, refl, ap, _∙_}
-use mathlib.Core.Bool.{Bool, true, false, cond, _||_}
+use mathlib.Core.Bool.{Bool, true, false, cond}
 use Prim.Native.Nat.{ℕ, zero, suc, _+_, _-_, _<_, _≤_}
 use native.Mathlib.Nat.{add-zero, add-suc}
 use native.Mathlib.Numerals.{add-one}
@@ -8,8 +8,8 @@ use native.Mathlib.Omega.{arith}
 use lib.Dec.{eqb}
 use borrow.Author.Tests.{lt-ltb, le-ltb}
 use Rattle.rules.proofs.Cases.{by-lt}
-use Rattle.calendar.specs.Calendar.{Date, date, leap, monthDays, tomorrow, dateAfter}
-use Rattle.calendar.specs.Years.{yearDays, yearsDays, monthsDays}
+use Rattle.calendar.specs.Calendar.{Date, date, leap, shortMonth, monthDays, tomorrow, dateAfter}
+use Rattle.calendar.specs.inside.Years.{yearDays, yearsDays, monthsDays}
 use Rattle.calendar.specs.Promise.{InCalendar}
 
 -- ## Tomorrow
@@ -32,7 +32,7 @@ module _ (y m d : ℕ) where
 -- a month has 28 to 31
 pub month-some : (l : Bool) (m : ℕ) → (28 ≤ monthDays l m) × (monthDays l m ≤ 31)
 unfolding monthDays
-month-some l m = go l (eqb m 2) (eqb m 4 || (eqb m 6 || (eqb m 9 || eqb m 11)))
+month-some l m = go l (eqb m 2) (shortMonth m)
   where
     go : (l two short : Bool) → (28 ≤ cond two (cond l 29 28) (cond short 30 31)) × (cond two (cond l 29 28) (cond short 30 31) ≤ 31)
     go true true short = omega arith

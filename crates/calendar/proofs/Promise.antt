@@ -1,11 +1,12 @@
 -- The calendar's promises.
 use mathlib.Core.Path.{_≡_, refl, ap, sym, _∙_}
 use mathlib.Core.Bool.{true, false}
+use mathlib.Core.List.{[], _∷_, map}
 use Prim.Native.Nat.{ℕ, suc, _+_, _-_, _≤_}
 use native.Mathlib.Omega.{arith}
 use Rattle.calendar.specs.Calendar.{Date, date, leap, monthDays, tomorrow, dateAfter, dateOf, lastDated}
-use Rattle.calendar.specs.Years.{yearDays, yearsDays, monthsDays}
-use Rattle.calendar.specs.Promise.{InCalendar, Calendar}
+use Rattle.calendar.specs.inside.Years.{yearDays, yearsDays, monthsDays}
+use Rattle.calendar.specs.Promise.{InCalendar, twelve, Calendar}
 use Rattle.calendar.proofs.Counting.{counted, daysAfter, stands}
 
 next-date : (day : ℕ) → 1 ≤ day → dateOf (day + 1) ≡ tomorrow (dateOf day)
@@ -53,5 +54,14 @@ other-years : (leap 1900 ≡ false) × (leap 2001 ≡ false) × (leap 2100 ≡ f
 unfolding leap
 other-years = (refl, refl, refl)
 
+months-are : map (monthDays false) twelve ≡ 31 ∷ 28 ∷ 31 ∷ 30 ∷ 31 ∷ 30 ∷ 31 ∷ 31 ∷ 30 ∷ 31 ∷ 30 ∷ 31 ∷ []
+unfolding monthDays map
+months-are = refl
+
+leap-months-are : map (monthDays true) twelve ≡ 31 ∷ 29 ∷ 31 ∷ 30 ∷ 31 ∷ 30 ∷ 31 ∷ 31 ∷ 30 ∷ 31 ∷ 30 ∷ 31 ∷ []
+unfolding monthDays map
+leap-months-are = refl
+
 pub calendar : Calendar
-calendar = record { leaps = leap-years; others = other-years; first = first-date; last = last-date; next = next-date; apart = one-date; within = a-date; each = a-day }
+calendar =
+    record { leaps = leap-years; others = other-years; months = months-are; leap-months = leap-months-are; first = first-date; last = last-date; next = next-date; apart = one-date; within = a-date; each = a-day }

@@ -15,12 +15,13 @@ date year month day = record { year = year; month = month; day = day }
 unfoldable pub leap : ℕ → Bool
 leap year = eqb (year % 4) 0 && (not (eqb (year % 100) 0) || eqb (year % 400) 0)
 
--- how many days a month has: February 28, in a leap year 29; April, June, September and November 30; the others 31
+-- April, June, September and November
+abbrev pub shortMonth : ℕ → Bool
+shortMonth month = eqb month 4 || (eqb month 6 || (eqb month 9 || eqb month 11))
+
+-- how many days a month has: February 28, in a leap year 29; the short months 30; the others 31
 unfoldable pub monthDays : (leap : Bool) → ℕ → ℕ
-monthDays leap month =
-    cond (eqb month 2)
-    (cond leap 29 28)
-    (cond (eqb month 4 || (eqb month 6 || (eqb month 9 || eqb month 11))) 30 31)
+monthDays leap month = cond (eqb month 2) (cond leap 29 28) (cond (shortMonth month) 30 31)
 
 -- the next date: the next day of the month, or the first of the next month, or after December the first of the next year
 unfoldable pub tomorrow : Date → Date
@@ -34,7 +35,7 @@ unfoldable pub dateAfter : ℕ → Date
 dateAfter zero = date 2000 1 1
 dateAfter (suc n) = tomorrow (dateAfter n)
 
--- the date of a day: day 1 is 2000-01-01
+-- the date of a day: day 1 is 2000-01-01. There is no day 0; it is taken as day 1
 unfoldable pub dateOf : ℕ → Date
 dateOf day = dateAfter (day - 1)
 

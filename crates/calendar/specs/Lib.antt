@@ -1,3 +1,3 @@
 pub mod Calendar
-pub mod Years
 pub mod Promise
+pub mod inside

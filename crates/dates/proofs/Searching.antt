@@ -5,7 +5,7 @@ use Prim.Native.Nat.{ℕ, zero, suc, _+_, _*_, _-_, _/_, _<_, _≤_}
 use native.Mathlib.Omega.{arith}
 use Rattle.rules.proofs.Cases.{by-lt}
 use Rattle.calendar.specs.Calendar.{date, leap, monthDays, dateAfter, dateOf, lastDated}
-use Rattle.calendar.specs.Years.{yearDays, yearsDays, firstDay, monthsDays}
+use Rattle.calendar.specs.inside.Years.{yearDays, yearsDays, firstDay, monthsDays}
 use Rattle.calendar.proofs.Counting.{year-most, year-least, month-some, months-year, months-more, counted, daysAfter, stands}
 use Rattle.dates.specs.inside.Found.{InYear, Writable}
 

@@ -8,7 +8,7 @@ use lib.Dec.{eqb}
 use lib.ListN.{length, getD}
 use borrow.Author.Tests.{eqb-true}
 use Rattle.rules.proofs.Bools.{and-both}
-use Rattle.calendar.specs.Years.{firstDay}
+use Rattle.calendar.specs.inside.Years.{firstDay}
 use Rattle.dates.specs.inside.Found.{entryOf}
 
 -- the entries from year k on are first days, by the leap years before them

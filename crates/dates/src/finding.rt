@@ -2,7 +2,7 @@
 ghost use mathlib.Core.Path.{_≡_};
 ghost use Prim.Native.Nat.{_+_, _<_, _≤_};
 ghost use Rattle.calendar.specs.Calendar.{leap, monthDays, dateAfter, dateOf, lastDated};
-ghost use Rattle.calendar.specs.Years.{yearDays, yearsDays};
+ghost use Rattle.calendar.specs.inside.Years.{yearDays, yearsDays};
 ghost use Rattle.dates.specs.inside.Found.{InYear, dateSays};
 use crate::years::YEARS;
 use crate::years::first_day;
@@ -14,7 +14,7 @@ pub(crate) struct Date {
     pub day: u32,
 }
 
-// A year is divisible by 4, and not by 100 unless by 400.
+// A leap year is divisible by 4, and not by 100 unless by 400.
 fn leap(year: u32) -> bool
     ensures { λ t. ⌜ t ≡ leap year ⌝ }
 {
@@ -37,7 +37,7 @@ fn month_days(leap: bool, month: u32) -> u32
     }
 }
 
-// How many years after 2000 the year of a day comes. No year has more than 366 days, so that the search begins at most one too early.
+// How many years after 2000 the year of a day comes. No year has more than 366 days, so that the search does not begin past it.
 fn year_of(day: u32) -> usize
     requires { ⌜ (1 ≤ day) × (day ≤ lastDated) ⌝ }
     ensures { λ t. ⌜ InYear t day ⌝ }

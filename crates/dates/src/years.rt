@@ -2,7 +2,7 @@
 ghost use mathlib.Core.Path.{_≡_};
 ghost use Prim.Native.Nat.{_<_};
 ghost use Rattle.rules.specs.Lent.{old};
-ghost use Rattle.calendar.specs.Years.{firstDay};
+ghost use Rattle.calendar.specs.inside.Years.{firstDay};
 ghost use Rattle.dates.specs.inside.Found.{entryOf};
 
 // The last day that has a date: 2099-12-31.
@@ -114,7 +114,7 @@ const FIRST_DAYS: [u16; YEARS] = [
     36161,
 ];
 
-// An entry of the table.
+// An entry of a table. The table is lent, so that its test is computed over what is given.
 fn entry(days: &[u16; YEARS], k: usize) -> u32
     requires { ⌜ k < 100 ⌝ }
     ensures { λ t. ⌜ t ≡ entryOf (old days) k ⌝ }
@@ -122,6 +122,7 @@ fn entry(days: &[u16; YEARS], k: usize) -> u32
     wide(days[k])
 }
 
+// A 16-bit number in 32 bits.
 fn wide(n: u16) -> u32
     ensures { λ t. ⌜ t ≡ n ⌝ }
 {

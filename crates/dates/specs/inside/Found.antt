@@ -3,7 +3,7 @@ use Prim.Native.Nat.{ℕ, _+_, _<_, _≤_}
 use mathlib.Core.List.{List}
 use lib.ListN.{getD}
 use Rattle.calendar.specs.Calendar.{Date, date}
-use Rattle.calendar.specs.Years.{firstDay}
+use Rattle.calendar.specs.inside.Years.{firstDay}
 use Rattle.dates.specs.declared.finding.Date as code
 
 -- the entry of year k in a table

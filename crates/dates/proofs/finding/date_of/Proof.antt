@@ -3,7 +3,7 @@ use mathlib.Core.Path.{ap, _∙_}
 use native.Mathlib.Omega.{arith}
 use borrow.Author.Needs.{needs}
 use Rattle.calendar.specs.Calendar.{leap, dateAfter, dateOf}
-use Rattle.calendar.specs.Years.{yearDays, yearsDays}
+use Rattle.calendar.specs.inside.Years.{yearDays, yearsDays}
 use Rattle.dates.proofs.Searching.{in-year, year-date}
 use Rattle.dates.proofs.finding.date_of.Statement.{statement}
 use Rattle.dates.proofs.finding.date_of.Tie as tie

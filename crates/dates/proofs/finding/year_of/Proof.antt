@@ -2,7 +2,7 @@
 use Prim.Native.Nat.{_-_, _<_, _≤_}
 use native.Mathlib.Omega.{arith}
 use borrow.Author.Needs.{needs}
-use Rattle.calendar.specs.Years.{firstDay}
+use Rattle.calendar.specs.inside.Years.{firstDay}
 use Rattle.dates.proofs.Searching.{begins, in-last}
 use Rattle.dates.proofs.finding.year_of.Statement.{statement}
 use Rattle.dates.proofs.finding.year_of.Tie as tie

@@ -2,7 +2,7 @@
 use mathlib.Core.Path.{refl, _∙_}
 use borrow.Author.Needs.{needs}
 use Rattle.calendar.specs.Calendar.{leap}
-use Rattle.calendar.specs.Years.{yearDays, yearsDays, firstDay}
+use Rattle.calendar.specs.inside.Years.{yearDays, yearsDays, firstDay}
 use Rattle.dates.proofs.Table.{firstDays, entry-is}
 use Rattle.dates.proofs.years.first_day.Statement.{statement}
 use Rattle.dates.proofs.years.first_day.Tie as tie
