@@ -21,7 +21,7 @@ use Rattle.dates.proofs.Writing.{date-count}
 use Rattle.grant.specs.Grant.{Grant}
 use Rattle.matching.specs.Matching.{Window, window}
 use Rattle.renewals.specs.Dating.{isOpen, runs, hasEnded}
-use Rattle.board.specs.Board.{rightIn, leftIn, lastText, stateText, field, grantLine, late, lineAnswer, lineBuffer}
+use Rattle.board.specs.Board.{rightIn, leftIn, lastText, stateText, field, grantLine, undated, lineAnswer, lineBuffer}
 
 -- a field's text, and then one byte
 pub field-written : (buffer : List ℕ) (at : ℕ) (text : List ℕ) (last : ℕ) {first : List ℕ} {p : ℕ} → at + (length text + 1) ≤ length buffer
@@ -160,16 +160,16 @@ module _ (day : ℕ) (g : Grant) where
   -- ## Its writer
 
   -- neither day is above the last that has a date
-  pub in-time : late g ≡ false → (g .first ≤ lastDated) × (g .last ≤ lastDated)
-  unfolding late
+  pub in-time : undated g ≡ false → (g .first ≤ lastDated) × (g .last ≤ lastDated)
+  unfolding undated
   in-time e = let h = or-none (ltb lastDated (g .first)) _ e in (ltb-false _ _ (h .0), ltb-false _ _ (h .1))
 
   module _ (buffer : List ℕ) (at : ℕ) where
-    pub line-late : late g ≡ true → (refused 31 ≡ lineAnswer buffer at day g) × (buffer ≡ lineBuffer buffer at day g)
+    pub line-undated : undated g ≡ true → (refused 31 ≡ lineAnswer buffer at day g) × (buffer ≡ lineBuffer buffer at day g)
     unfolding lineAnswer lineBuffer
-    line-late e = (rw e, rw e)
+    line-undated e = (rw e, rw e)
 
-    module _ (good : late g ≡ false) where
+    module _ (good : undated g ≡ false) where
       pub line-good : (written buffer at (grantLine day g) ≡ lineAnswer buffer at day g) × (after buffer at (grantLine day g) ≡ lineBuffer buffer at day g)
       unfolding lineAnswer lineBuffer
       line-good = (rw good, rw good)

@@ -1,4 +1,4 @@
--- The state of a line is the decision on its grant alone.
+-- What a line promises: its state is the decision on its grant alone, and it has 41 bytes.
 use mathlib.Core.Path.{_≡_, refl, sym}
 use mathlib.Core.Bool.{Bool, true, false, cond, not, _&&_, _||_, true≢false}
 use mathlib.Core.List.{List, [], _∷_}
@@ -11,7 +11,8 @@ use Rattle.text.specs.Letters.{letters}
 use Rattle.matching.specs.Matching.{Window}
 use Rattle.renewals.specs.Dating.{Decision, isOpen, runs, hasEnded, yetToBegin, those, someOpen, greatestLast, notOn, prolonged, runFrom, onOpen, onUntil, dated}
 use Rattle.board.specs.Board.{stateText}
-use Rattle.board.specs.Alone.{word, StateAlone}
+use Rattle.board.proofs.Laws.{line-count}
+use Rattle.board.specs.Promise.{word, LineBytes, StateAlone}
 
 -- a run of days is on
 some-on : (w : Window) (ws : List Window) (none : Decision) (further : ℕ → Decision) → ((u : ℕ) → word (further u) ≡ letters "on")
@@ -53,3 +54,6 @@ state-alone day w = go (runs day w) (hasEnded day w) refl refl
     go true h e f = sym (some-on w [] (notOn (cond h (w ∷ []) []) (cond (yetToBegin day w) (w ∷ []) [])) (runFrom 1 (w ∷ [])) (on-word 1 (w ∷ [])))
     go false true e f = refl
     go false false e f = rw (yet day w e f)
+
+pub line-bytes : LineBytes
+line-bytes = line-count

@@ -31,7 +31,7 @@ stateText day w = cond (runs day w) (letters "on") (cond (hasEnded day w) (lette
 
 -- a field, and the byte after it: 32, a space, or 10, a line feed
 unfoldable pub field : List ℕ → ℕ → List ℕ
-field text last = text ++ (last ∷ [])
+field text end = text ++ (end ∷ [])
 
 -- feature in 10 columns, right-aligned; first date in 10, last date in 10, state in 7
 unfoldable pub grantLine : (day : ℕ) → Grant → List ℕ
@@ -42,12 +42,12 @@ grantLine day g =
     ++ field (leftIn 7 (stateText day (window g))) 10))
 
 -- 31: the first or last day is above 36525
-unfoldable pub late : Grant → Bool
-late g = ltb lastDated (g .first) || ltb lastDated (g .last)
+unfoldable pub undated : Grant → Bool
+undated g = ltb lastDated (g .first) || ltb lastDated (g .last)
 
 -- a line's writer: 31, then 30; refused, nothing is written
 unfoldable pub lineAnswer : List ℕ → (at day : ℕ) → Grant → Answer ℕ
-lineAnswer buffer at day g = cond (late g) (refused 31) (written buffer at (grantLine day g))
+lineAnswer buffer at day g = cond (undated g) (refused 31) (written buffer at (grantLine day g))
 
 unfoldable pub lineBuffer : List ℕ → (at day : ℕ) → Grant → List ℕ
-lineBuffer buffer at day g = cond (late g) buffer (after buffer at (grantLine day g))
+lineBuffer buffer at day g = cond (undated g) buffer (after buffer at (grantLine day g))

@@ -9,7 +9,7 @@ ghost use Rattle.rules.specs.Buffers.{after};
 ghost use Rattle.rules.specs.Lent.{old, new};
 ghost use Rattle.number.specs.Says.{writtenSays};
 ghost use Rattle.grant.specs.Says.{grantOf};
-ghost use Rattle.board.specs.Board.{grantLine, late, lineAnswer, lineBuffer};
+ghost use Rattle.board.specs.Board.{grantLine, undated, lineAnswer, lineBuffer};
 use dates::LAST_DATED;
 use fields::write_feature;
 use fields::write_first;
@@ -24,15 +24,15 @@ use text::too_short;
 pub const LINE: usize = 41;
 
 // 31: the first or last day is above 36525.
-pub fn late(g: Grant) -> bool
-    ensures { λ t. ⌜ t ≡ late (grantOf g) ⌝ }
+pub fn undated(g: Grant) -> bool
+    ensures { λ t. ⌜ t ≡ undated (grantOf g) ⌝ }
 {
     (LAST_DATED < g.first) | (LAST_DATED < g.last)
 }
 
 // Writes the four fields of a line.
 fn write_fields(buffer: &mut [u8], at: usize, day: u32, g: Grant)
-    requires { ⌜ (late (grantOf g) ≡ false) × (at + 41 ≤ length (now buffer)) ⌝ }
+    requires { ⌜ (undated (grantOf g) ≡ false) × (at + 41 ≤ length (now buffer)) ⌝ }
     ensures { λ _. ⌜ new buffer ≡ after (old buffer) at (grantLine day (grantOf g)) ⌝ }
 {
     write_feature(&mut *buffer, at, g.feature);
@@ -46,7 +46,7 @@ pub fn write_line(buffer: &mut [u8], at: usize, day: u32, g: Grant) -> Written
     ensures { λ t. ⌜ writtenSays t ≡ lineAnswer (old buffer) at day (grantOf g) ⌝ }
     ensures { λ t. ⌜ new buffer ≡ lineBuffer (old buffer) at day (grantOf g) ⌝ }
 {
-    if late(g) {
+    if undated(g) {
         return Written::Refused(Refusal::Undated);
     }
     if too_short(buffer.len(), at, LINE) {

@@ -41,9 +41,9 @@ parts-written t buffer at h ea eb ec ed =
 -- ## The writer of a day's date
 
 module _ (buffer : List ℕ) (at day : ℕ) where
-  pub date-late : lastDated < day → (refused 31 ≡ dateAnswer buffer at day) × (buffer ≡ dateBuffer buffer at day)
+  pub date-undated : lastDated < day → (refused 31 ≡ dateAnswer buffer at day) × (buffer ≡ dateBuffer buffer at day)
   unfolding dateAnswer dateBuffer
-  date-late h = (rw (lt-ltb _ _ h), rw (lt-ltb _ _ h))
+  date-undated h = (rw (lt-ltb _ _ h), rw (lt-ltb _ _ h))
 
   module _ (early : day ≤ lastDated) where
     pub date-early : (written buffer at (dateText (dateOf day)) ≡ dateAnswer buffer at day) × (after buffer at (dateText (dateOf day)) ≡ dateBuffer buffer at day)

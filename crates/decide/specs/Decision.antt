@@ -8,12 +8,12 @@ use lib.ListN.{drop}
 use Rattle.rules.specs.Answers.{Answer, answer, refused, then}
 use Rattle.number.specs.Number.{numberAt}
 use Rattle.grant.specs.Grant.{grantsOf}
-use Rattle.matching.specs.Matching.{window, windows, appliesTo}
+use Rattle.matching.specs.Matching.{passBad, window, windows, appliesTo}
 use Rattle.renewals.specs.Dating.{Decision, dated}
 
 -- 15: feature, pass l or r, or day is 0
 unfoldable pub questionBad : (feature l r day : ℕ) → Bool
-questionBad feature l r day = eqb feature 0 || (eqb l 0 || (eqb r 0 || eqb day 0))
+questionBad feature l r day = eqb feature 0 || passBad l r day
 
 -- Decide: 15, then the whole list from left to right
 unfoldable pub decided : (feature l r day : ℕ) → List ℕ → Answer Decision

@@ -16,6 +16,7 @@ use dating::unsettled;
 use grant::GrantDrawn;
 use grant::grant_at;
 use matching::applies;
+use matching::pass_bad;
 use number::Drawn;
 use number::number_at;
 use rules::Refusal;
@@ -24,7 +25,7 @@ use rules::Refusal;
 fn question_bad(feature: u32, l: u32, r: u32, day: u32) -> bool
     ensures { λ t. ⌜ t ≡ questionBad feature l r day ⌝ }
 {
-    (feature == 0) | ((l == 0) | ((r == 0) | (day == 0)))
+    (feature == 0) | pass_bad(l, r, day)
 }
 
 // What one reading of a grant list gives.

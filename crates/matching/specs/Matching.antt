@@ -1,10 +1,14 @@
 -- Which grants apply, and their days (RULES.md, 9). What "applies" means is a parameter of `windows`, so that a
 -- pass's numbers and the ledger's order share it.
 use Prim.Native.Nat.{ℕ}
-use mathlib.Core.Bool.{Bool, cond, _&&_}
+use mathlib.Core.Bool.{Bool, cond, _&&_, _||_}
 use mathlib.Core.List.{List, [], _∷_}
 use lib.Dec.{eqb, leb}
 use Rattle.grant.specs.Grant.{Grant}
+
+-- 15, without a feature: pass l or r, or day is 0
+abbrev pub passBad : (l r day : ℕ) → Bool
+passBad l r day = eqb l 0 || (eqb r 0 || eqb day 0)
 
 -- a grant covers a pass (l, r), whatever its feature, when pass l ≤ grant l and pass r ≤ grant r
 abbrev pub covers : (l r : ℕ) → Grant → Bool

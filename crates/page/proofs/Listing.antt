@@ -11,18 +11,18 @@ use Rattle.grant.specs.Grant.{Grant, GrantRead, grantAt, grantsBy}
 use Rattle.grant.proofs.Listing.{GrantStands, grant-stands, GoesOn}
 use Rattle.grant.proofs.Folding as list
 use Rattle.matching.specs.Matching.{covers}
-use Rattle.board.specs.Board.{late}
+use Rattle.board.specs.Board.{undated}
 use Rattle.page.specs.Page.{datedGrantAt, applying}
 use Rattle.page.specs.inside.Reading.{linesOf}
 
--- a grant that is read is a grant of the bytes, and is not late
-pub dated-read : (bytes : List ℕ) (at : ℕ) {g : GrantRead} → datedGrantAt bytes at ≡ answer g → (grantAt bytes at ≡ answer g) × (late (g .grant) ≡ false)
+-- a grant that is read is a grant of the bytes, and is not undated
+pub dated-read : (bytes : List ℕ) (at : ℕ) {g : GrantRead} → datedGrantAt bytes at ≡ answer g → (grantAt bytes at ≡ answer g) × (undated (g .grant) ≡ false)
 unfolding datedGrantAt
 dated-read bytes at e =
     let a = then-answer (grantAt bytes at) _ e in
-    let p = peel (late _) 31 _ (a .2) in
+    let p = peel (undated _) 31 _ (a .2) in
     let g = same-answer (p .1) in
-    (a .1 ∙ ap answer g, ap (λ (r : GrantRead). late (r .grant)) (sym g) ∙ p .0)
+    (a .1 ∙ ap answer g, ap (λ (r : GrantRead). undated (r .grant)) (sym g) ∙ p .0)
 
 pub dated-stands : (bytes : List ℕ) (at : ℕ) {g : GrantRead} → datedGrantAt bytes at ≡ answer g → GrantStands bytes at g
 dated-stands bytes at e = grant-stands bytes at (dated-read bytes at e .0)
@@ -37,11 +37,11 @@ module _ (bytes : List ℕ) (at : ℕ) where
   unfolding datedGrantAt
   dated-refused e = rw e
 
-  pub dated-late : {g : GrantRead} → grantAt bytes at ≡ answer g → late (g .grant) ≡ true → refused 31 ≡ datedGrantAt bytes at
+  pub undated-refused : {g : GrantRead} → grantAt bytes at ≡ answer g → undated (g .grant) ≡ true → refused 31 ≡ datedGrantAt bytes at
   unfolding datedGrantAt
-  dated-late e k = rw (e, k)
+  undated-refused e k = rw (e, k)
 
-  pub dated-given : {g : GrantRead} → grantAt bytes at ≡ answer g → late (g .grant) ≡ false → answer g ≡ datedGrantAt bytes at
+  pub dated-given : {g : GrantRead} → grantAt bytes at ≡ answer g → undated (g .grant) ≡ false → answer g ≡ datedGrantAt bytes at
   unfolding datedGrantAt
   dated-given e k = rw (e, k)
 

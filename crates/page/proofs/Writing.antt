@@ -13,12 +13,13 @@ use Rattle.rules.proofs.Cases.{by-lt}
 use Rattle.rules.proofs.Buffers.{written-all, kept, after-same, after-none, after-after}
 use Rattle.grant.specs.Grant.{Grant, GrantRead, grantAt, grantsBy}
 use Rattle.grant.proofs.Listing.{inFront, grantsAt, grants-unfold, grants-done, grants-all}
-use Rattle.matching.specs.Matching.{covers}
-use Rattle.board.specs.Board.{grantLine, late, lineBuffer}
+use Rattle.matching.specs.Matching.{passBad, covers}
+use Rattle.board.specs.Board.{grantLine, undated, lineBuffer}
 use Rattle.board.proofs.Laws.{line-count, line-good}
-use Rattle.page.specs.Page.{pageBad, datedGrantAt, applying, pageText, pageOf, pageAnswer, pageBuffer}
+use Rattle.page.specs.Page.{datedGrantAt, applying, pageText, pageOf, pageAnswer, pageBuffer}
+use Rattle.page.specs.Promise.{PageBytes}
 use Rattle.page.specs.inside.Reading.{linesOf, linesText, Fits}
-use Rattle.page.proofs.Listing.{dated-read, dated-stands, dated-goes-on, dated-late, dated-given}
+use Rattle.page.proofs.Listing.{dated-read, dated-stands, dated-goes-on, undated-refused, dated-given}
 
 module _ (l r day : ℕ) where
   -- a grant that applies has a line, another one has none
@@ -37,9 +38,9 @@ module _ (l r day : ℕ) where
   lines-count (g ∷ gs) =
       omega (arith, length-append (grantLine day g) (flatMap (grantLine day) gs), line-count day g, lines-count gs, mul-suc 41 (length gs))
 
-  pub page-count : (gs : List Grant) → length (pageText l r day gs) ≡ 41 * length (applying l r gs)
-  unfolding pageText
-  page-count gs = lines-count (applying l r gs)
+pub page-count : PageBytes
+unfolding pageText
+page-count l r day gs = lines-count l r day (applying l r gs)
 
 none : (text : List ℕ) → length text ≡ 0 → text ≡ []
 none [] e = refl
@@ -88,12 +89,12 @@ module _ (l r day : ℕ) (bytes : List ℕ) (whole : ℕ) (buffer₀ : List ℕ)
       pub not-refused : {C : Type 0} {n : ℕ} → datedGrantAt bytes at ≡ refused n → C
       not-refused {n = n} e = never-refused {n = n} (sym (grants-unfold datedGrantAt dated-goes-on bytes at more ∙ rw e) ∙ left .reads)
 
-      -- a grant of the bytes is not late
+      -- a grant of the bytes is not undated
       pub in-time : {g : GrantRead} → grantAt bytes at ≡ answer g → datedGrantAt bytes at ≡ answer g
-      in-time {g} e = go (late (g .grant)) refl
+      in-time {g} e = go (undated (g .grant)) refl
         where
-          go : (b : Bool) → late (g .grant) ≡ b → datedGrantAt bytes at ≡ answer g
-          go true k = not-refused (sym (dated-late bytes at e k))
+          go : (b : Bool) → undated (g .grant) ≡ b → datedGrantAt bytes at ≡ answer g
+          go true k = not-refused (sym (undated-refused bytes at e k))
           go false k = sym (dated-given bytes at e k)
 
       -- a grant, and the rest
@@ -161,11 +162,11 @@ module _ (l r day : ℕ) (bytes : List ℕ) (whole : ℕ) (buffer₀ : List ℕ)
 -- ## The whole call
 
 module _ (l r day : ℕ) (bytes buffer : List ℕ) where
-  pub page-bad : pageBad l r day ≡ true → (refused 15 ≡ pageAnswer l r day bytes buffer) × (buffer ≡ pageBuffer (pageOf l r day bytes) buffer)
+  pub page-bad : passBad l r day ≡ true → (refused 15 ≡ pageAnswer l r day bytes buffer) × (buffer ≡ pageBuffer (pageOf l r day bytes) buffer)
   unfolding pageAnswer pageOf pageBuffer
   page-bad e = (rw e, rw e)
 
-  module _ (good : pageBad l r day ≡ false) where
+  module _ (good : passBad l r day ≡ false) where
     pub page-refused : {n : ℕ} → linesOf l r bytes ≡ refused n → (refused n ≡ pageAnswer l r day bytes buffer) × (buffer ≡ pageBuffer (pageOf l r day bytes) buffer)
     unfolding linesOf pageAnswer pageOf pageBuffer
     page-refused e = let f = then-refused (grantsBy datedGrantAt bytes) _ e in (rw (good, f), rw (good, f))

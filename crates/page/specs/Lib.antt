@@ -1,2 +1,3 @@
 pub mod Page
+pub mod Promise
 pub mod inside

@@ -4,25 +4,19 @@ ghost use mathlib.Core.Path.{_≡_};
 ghost use Rattle.rules.specs.Buffers.{after};
 ghost use Rattle.rules.specs.Lent.{old, new};
 ghost use Rattle.number.specs.Says.{writtenSays};
-ghost use Rattle.page.specs.Page.{pageBad, pageOf, pageAnswer, pageBuffer};
+ghost use Rattle.page.specs.Page.{pageOf, pageAnswer, pageBuffer};
 ghost use Rattle.page.specs.inside.Reading.{linesOf, countSays, linesText, Fits};
 use board::LINE;
-use board::late;
+use board::undated;
 use board::write_line;
 use coordinates::LValue;
 use coordinates::RValue;
 use grant::GrantDrawn;
 use grant::grant_at;
 use matching::covers;
+use matching::pass_bad;
 use number::Written;
 use rules::Refusal;
-
-// 15: pass l or r, or day is 0.
-fn page_bad(l: u32, r: u32, day: u32) -> bool
-    ensures { λ t. ⌜ t ≡ pageBad l r day ⌝ }
-{
-    (l == 0) | ((r == 0) | (day == 0))
-}
 
 // What the first reading gives.
 enum LineCount {
@@ -43,7 +37,7 @@ fn count_lines(l: u32, r: u32, grants: &[u8]) -> LineCount
             }
             GrantDrawn::Grant(g, next) => {
                 let applies = covers(LValue::new(l as u64), RValue::new(r as u64), g);
-                if late(g) {
+                if undated(g) {
                     return LineCount::Refused(Refusal::Undated);
                 }
                 if applies {
@@ -65,11 +59,13 @@ fn write_lines(buffer: &mut [u8], whole: usize, l: u32, r: u32, day: u32, grants
     let mut at = 0;
     while p < whole {
         match grant_at(grants, at) {
+            // Not met: the first reading refused nothing.
             GrantDrawn::Refused(why) => {
                 return;
             }
             GrantDrawn::Grant(g, next) => {
                 if covers(LValue::new(l as u64), RValue::new(r as u64), g) {
+                    // Not refused: the grant has dates, and there is room.
                     write_line(&mut *buffer, p, day, g);
                     p += LINE;
                 }
@@ -84,7 +80,7 @@ pub fn page(l: u32, r: u32, day: u32, grants: &[u8], buffer: &mut [u8]) -> Writt
     ensures { λ t. ⌜ writtenSays t ≡ pageAnswer l r day (old grants) (old buffer) ⌝ }
     ensures { λ t. ⌜ new buffer ≡ pageBuffer (pageOf l r day (old grants)) (old buffer) ⌝ }
 {
-    if page_bad(l, r, day) {
+    if pass_bad(l, r, day) {
         return Written::Refused(Refusal::Question);
     }
     match count_lines(l, r, grants) {

@@ -24,8 +24,8 @@ use Rattle.decision_line.specs.DecisionText.{decisionText}
 use Rattle.lines.specs.Lines.{fieldText, lineText, headingText, rowText, tableText}
 use Rattle.calendar.specs.Calendar.{leap, monthDays, tomorrow, dateAfter, dateOf}
 use Rattle.dates.specs.Dates.{two, dateText}
-use Rattle.board.specs.Board.{rightIn, leftIn, lastText, stateText, field, grantLine, late}
-use Rattle.page.specs.Page.{pageBad, datedGrantAt, applying, pageText, pageOf}
+use Rattle.board.specs.Board.{rightIn, leftIn, lastText, stateText, field, grantLine, undated}
+use Rattle.page.specs.Page.{datedGrantAt, applying, pageText, pageOf}
 use Rattle.replay.specs.Run.{answersTo, tableEnd}
 use Rattle.replay.specs.Replay.{endText, replayFrom, replayOf, textOf}
 use Rattle.proved_cases.specs.Cases.{computed, stated}
@@ -40,5 +40,5 @@ unfolding cases besideRequest uprightRequest invertedRequest first9 second9 thir
     belowEntries aboveEntries itself byTrees orderAfter replace explodedLedger ledgerRefined ledgerOrder ledgerReply ledgerAfter ledgerReplies ledgerEnd
     digits decimal fieldText lineText headingText rowText tableText decisionText flatMap pairOf partAt partThen requestsFrom requestsAt answersTo
     tableEnd endText replayFrom replayOf textOf explodes explodedIn groupGrantBad someGroupGrantBad appliesBy ledgerDecided leap monthDays
-    tomorrow dateAfter dateOf two dateText rightIn leftIn lastText stateText field grantLine late pageBad datedGrantAt applying pageText pageOf
+    tomorrow dateAfter dateOf two dateText rightIn leftIn lastText stateText field grantLine undated datedGrantAt applying pageText pageOf
 cases-right = refl

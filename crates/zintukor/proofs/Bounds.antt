@@ -1,4 +1,5 @@
--- The counts that are encoded are small: a new count is at most the most rows, and so many rows have few bytes.
+-- The counts that are encoded are small: a new count is at most the most rows, so many rows have few bytes, and a page is no longer than the part
+-- of its buffer that is used.
 use mathlib.Core.Path.{_≡_, refl, ap, sym, _∙_}
 use mathlib.Core.Bool.{Bool, true, false, cond, _||_}
 use mathlib.Core.List.{List, [], _∷_}

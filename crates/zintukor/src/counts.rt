@@ -1,4 +1,4 @@
-// A count or a byte count as one number. It is small, so that it does not run into the kind.
+// A count or a byte count as one number: it is small, so that it does not run into the kind. And how much of a buffer that allows.
 ghost use mathlib.Core.Path.{_≡_};
 ghost use Prim.Native.Nat.{min};
 ghost use Rattle.rules.specs.Limits.{greatest};

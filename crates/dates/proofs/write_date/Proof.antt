@@ -6,12 +6,12 @@ use denote.Ref.{now}
 use Rattle.rules.specs.Buffers.{after}
 use Rattle.dates.specs.Dates.{dateText}
 use Rattle.dates.proofs.Searching.{writable}
-use Rattle.dates.proofs.Writing.{date-late, date-short, date-written}
+use Rattle.dates.proofs.Writing.{date-undated, date-short, date-written}
 use Rattle.dates.proofs.write_date.Statement.{statement}
 use Rattle.dates.proofs.write_date.Tie as tie
 
-late : tie.Need-returns
-late c = date-late _ _ _ (c .if1 .taken)
+undated : tie.Need-returns
+undated c = date-undated _ _ _ (c .if1 .taken)
 
 short : tie.Need-returns-2
 short c =
@@ -37,4 +37,4 @@ returns c =
 pub write-date-spec : {M : Type 1} → statement M
 write-date-spec =
     tie.close
-    (tie.spec late (λ c κs. search needs) short (λ c κs. search needs) fits (λ c. search needs) returns)
+    (tie.spec undated (λ c κs. search needs) short (λ c κs. search needs) fits (λ c. search needs) returns)

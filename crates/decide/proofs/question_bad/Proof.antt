@@ -6,4 +6,4 @@ use Rattle.decide.proofs.question_bad.Tie as tie
 
 pub question-bad-spec : {M : Type 1} → statement M
 unfolding questionBad
-question-bad-spec = tie.close (tie.spec (λ c. search needs))
+question-bad-spec = tie.close (tie.spec (λ c κs. search needs) (λ c. rw (c .pass-bad .ensures)))

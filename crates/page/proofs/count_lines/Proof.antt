@@ -7,7 +7,7 @@ use borrow.Author.Needs.{needs}
 use Rattle.grant.specs.Says.{grantSays}
 use Rattle.page.specs.inside.Reading.{linesOf}
 use Rattle.grant.proofs.Listing.{grant-stands}
-use Rattle.page.proofs.Listing.{dated-refused, dated-late, dated-given, lines as linesAt, lines-end, lines-refused, lines-applies, lines-other, lines-whole}
+use Rattle.page.proofs.Listing.{dated-refused, undated-refused, dated-given, lines as linesAt, lines-end, lines-refused, lines-applies, lines-other, lines-whole}
 use Rattle.page.proofs.count_lines.Statement.{statement}
 use Rattle.page.proofs.count_lines.Tie as tie
 
@@ -35,9 +35,9 @@ count-lines-spec =
     let g : tie.After-g Inv-loop μ-loop = search in
     let a = g .before .before in
     let i = a .before .before .loop in
-    let k : tie.After-late Inv-loop μ-loop = search in
+    let k : tie.After-undated Inv-loop μ-loop = search in
     let e = sym (a .grant-at .ensures) ∙ ap grantSays (g .g .given .1) in
-    sym (lines-refused _ _ _ (i .at) (i .lines) (a .before .loop-test .taken) (sym (dated-late _ _ e (sym (k .late .ensures) ∙ c .if1 .taken)))) ∙ i .inv .2)
+    sym (lines-refused _ _ _ (i .at) (i .lines) (a .before .loop-test .taken) (sym (undated-refused _ _ e (sym (k .undated .ensures) ∙ c .if1 .taken)))) ∙ i .inv .2)
     (λ c. let i : tie.At-loop Inv-loop μ-loop = search in omega (arith, i .loop .inv .1))
     (λ c.
     let g : tie.After-g Inv-loop μ-loop = search in
@@ -46,13 +46,13 @@ count-lines-spec =
     (λ c.
     let g : tie.After-g Inv-loop μ-loop = search in
     let p : tie.After-covers Inv-loop μ-loop = search in
-    let k : tie.After-late Inv-loop μ-loop = search in
+    let k : tie.After-undated Inv-loop μ-loop = search in
     let t : tie.Else1 Inv-loop μ-loop = search in
     let a = g .before .before in
     let i = a .before .before .loop in
     let e = sym (a .grant-at .ensures) ∙ ap grantSays (g .g .given .1) in
     let y = sym (rw (p .before .before .new .ensures, p .before .new2 .ensures) at (p .covers .ensures)) ∙ c .if2 .taken in
-    let d = sym (dated-given _ _ e (sym (k .late .ensures) ∙ t .if1 .left)) in
+    let d = sym (dated-given _ _ e (sym (k .undated .ensures) ∙ t .if1 .left)) in
     let s = grant-stands _ _ e in
     (s .ends, omega (arith, s .starts, i .inv .1), sym (lines-applies _ _ _ (i .at) (i .lines) (a .before .loop-test .taken) d y) ∙ i .inv .2))
     (λ c.
@@ -62,13 +62,13 @@ count-lines-spec =
     (λ c.
     let g : tie.After-g Inv-loop μ-loop = search in
     let p : tie.After-covers Inv-loop μ-loop = search in
-    let k : tie.After-late Inv-loop μ-loop = search in
+    let k : tie.After-undated Inv-loop μ-loop = search in
     let t : tie.Else1 Inv-loop μ-loop = search in
     let a = g .before .before in
     let i = a .before .before .loop in
     let e = sym (a .grant-at .ensures) ∙ ap grantSays (g .g .given .1) in
     let n = sym (rw (p .before .before .new .ensures, p .before .new2 .ensures) at (p .covers .ensures)) ∙ c .if2 .left in
-    let d = sym (dated-given _ _ e (sym (k .late .ensures) ∙ t .if1 .left)) in
+    let d = sym (dated-given _ _ e (sym (k .undated .ensures) ∙ t .if1 .left)) in
     let s = grant-stands _ _ e in
     (s .ends, omega (arith, s .starts, i .inv .1), sym (lines-other _ _ _ (i .at) (i .lines) (a .before .loop-test .taken) d n) ∙ i .inv .2))
     (λ c. let i = c .before .loop in sym (lines-end _ _ _ (i .at) (i .lines) (c .loop-test .left)) ∙ i .inv .2))

@@ -11,33 +11,33 @@ page-spec =
     tie.close
     (tie.spec
     (λ c κs. search needs)
-    (λ c. let b : tie.After-page-bad = search in page-bad _ _ _ _ _ (sym (b .page-bad .ensures) ∙ c .if1 .taken))
+    (λ c. let b : tie.After-pass-bad = search in page-bad _ _ _ _ _ (sym (b .pass-bad .ensures) ∙ c .if1 .taken))
     (λ c κs. search needs) (λ c. search needs) (λ c. search needs)
     (λ c.
-    let b : tie.After-page-bad = search in
+    let b : tie.After-pass-bad = search in
     let e : tie.Else1 = search in
     let m : tie.After-count-lines = search in
     let n : tie.After-lines = search in
-    page-short _ _ _ _ _ (sym (b .page-bad .ensures) ∙ e .if1 .left) (sym (m .count-lines .ensures) ∙ ap countSays (n .lines .given .1)) (c .if2 .taken))
+    page-short _ _ _ _ _ (sym (b .pass-bad .ensures) ∙ e .if1 .left) (sym (m .count-lines .ensures) ∙ ap countSays (n .lines .given .1)) (c .if2 .taken))
     (λ c. search needs)
     (λ c κs.
-    let b : tie.After-page-bad = search in
+    let b : tie.After-pass-bad = search in
     let e : tie.Else1 = search in
     let m : tie.After-count-lines = search in
     let n : tie.After-lines = search in
     let f : tie.Else2 = search in
-    page-fits _ _ _ _ _ (sym (b .page-bad .ensures) ∙ e .if1 .left) (sym (m .count-lines .ensures) ∙ ap countSays (n .lines .given .1)) (f .if2 .left))
+    page-fits _ _ _ _ _ (sym (b .pass-bad .ensures) ∙ e .if1 .left) (sym (m .count-lines .ensures) ∙ ap countSays (n .lines .given .1)) (f .if2 .left))
     (λ c.
-    let b : tie.After-page-bad = search in
+    let b : tie.After-pass-bad = search in
     let e : tie.Else1 = search in
     let m : tie.After-count-lines = search in
-    page-refused _ _ _ _ _ (sym (b .page-bad .ensures) ∙ e .if1 .left) (sym (m .count-lines .ensures) ∙ ap countSays (c .before .why .given .1)))
+    page-refused _ _ _ _ _ (sym (b .pass-bad .ensures) ∙ e .if1 .left) (sym (m .count-lines .ensures) ∙ ap countSays (c .before .why .given .1)))
     (λ c. search needs)
     (λ c.
-    let b : tie.After-page-bad = search in
+    let b : tie.After-pass-bad = search in
     let e : tie.Else1 = search in
     let m : tie.After-count-lines = search in
     let n : tie.After-lines = search in
     let f : tie.Else2 = search in
     let w : tie.After-write-lines = search in
-    page-written _ _ _ _ _ (sym (b .page-bad .ensures) ∙ e .if1 .left) (sym (m .count-lines .ensures) ∙ ap countSays (n .lines .given .1)) (f .if2 .left) (w .write-lines .ensures)))
+    page-written _ _ _ _ _ (sym (b .pass-bad .ensures) ∙ e .if1 .left) (sym (m .count-lines .ensures) ∙ ap countSays (n .lines .given .1)) (f .if2 .left) (w .write-lines .ensures)))
