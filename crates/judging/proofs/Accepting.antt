@@ -15,12 +15,11 @@ use Rattle.rules.specs.Answers.{Answer, answer, refused, then}
 use Rattle.request.specs.Entries.{Entry, pick, quota, times, total, quotaOf, someEntry, Distinct}
 use Rattle.request.specs.Request.{Request, entries}
 use Rattle.request.specs.Acceptance.{idUnknown, notOneEntry, idInTable, idTwice, quotasWrong, rowsFull, accepted}
-use Rattle.request.proofs.Accepting.{taken-each}
 use Rattle.request.proofs.Sums.{quota-none}
 use Rattle.table.specs.Places.{indexFrom, placeOf}
 use Rattle.table.proofs.Places.{place-in}
 use Rattle.judging.specs.Ids.{timesIn, someId}
-use Rattle.judging.specs.Judging.{ownRow, takenIn, judgedIn}
+use Rattle.judging.specs.Judging.{ownRow, takenIn, twiceIn, judgedIn}
 
 -- the ids of some entries, or of some groups
 abbrev pub idsOf : List Entry → List ℕ
@@ -38,15 +37,16 @@ some-ids p r [] h = refl
 some-ids p r (e ∷ s) h = ap₂ _||_ (h e) (some-ids p r s h)
 
 -- refusals go through, one after another
-five : {A B : Type 0} (p q r s t : Bool) (a : A) (f : A → Answer B)
-    → cond p (refused 20) (cond q (refused 21) (cond r (refused 22) (cond s (refused 23) (cond t (refused 24) (f a)))))
-    ≡ then (cond p (refused 20) (cond q (refused 21) (cond r (refused 22) (cond s (refused 23) (cond t (refused 24) (answer a)))))) f
-five true q r s t a f = refl
-five false true r s t a f = refl
-five false false true s t a f = refl
-five false false false true t a f = refl
-five false false false false true a f = refl
-five false false false false false a f = refl
+six : {A B : Type 0} (p q r s t w : Bool) (a : A) (f : A → Answer B)
+    → cond p (refused 20) (cond q (refused 21) (cond r (refused 22) (cond s (refused 26) (cond t (refused 23) (cond w (refused 24) (f a))))))
+    ≡ then (cond p (refused 20) (cond q (refused 21) (cond r (refused 22) (cond s (refused 26) (cond t (refused 23) (cond w (refused 24) (answer a))))))) f
+six true q r s t w a f = refl
+six false true r s t w a f = refl
+six false false true s t w a f = refl
+six false false false true t w a f = refl
+six false false false false true w a f = refl
+six false false false false false true a f = refl
+six false false false false false false a f = refl
 
 -- an id is found where it comes
 index-times : (i none x : ℕ) (s : List ℕ) → i + length s ≡ none → eqb (indexFrom i none x s) none ≡ not (leb 1 (timesIn x s))
@@ -87,10 +87,11 @@ unfolding placeOf
 row-quota x s h = rw (take-length (idsOf s), length-map s (λ (e : Entry). e .id)) (index-quota x s h)
 
 module _ (groups : List Entry) (distinct : Distinct groups) (room : ℕ) (a : Request) where
-  taken-is : (idInTable groups a || idTwice a) ≡ someId (takenIn (a .exploded) (idsOf groups) (idsOf (entries a))) (idsOf (entries a))
-  taken-is =
-      taken-each groups a
-      ∙ some-ids _ (takenIn (a .exploded) (idsOf groups) (idsOf (entries a))) (entries a) (λ e. rw (times-ids (e .id) groups, times-ids (e .id) (entries a)))
+  taken-is : idInTable groups a ≡ someId (takenIn (a .exploded) (idsOf groups)) (idsOf (entries a))
+  taken-is = some-ids _ (takenIn (a .exploded) (idsOf groups)) (entries a) (λ e. rw (times-ids (e .id) groups))
+
+  twice-is : idTwice a ≡ someId (twiceIn (a .exploded) (idsOf (entries a))) (idsOf (entries a))
+  twice-is = some-ids _ (twiceIn (a .exploded) (idsOf (entries a))) (entries a) (λ e. rw (times-ids (e .id) (entries a)))
 
   pub judged-is : judgedIn (idsOf groups) (map quota groups) room (a .exploded) (idsOf (entries a)) (total (entries a))
       ≡ then (accepted room groups a) λ _. answer (placeOf (idsOf groups) (length groups) (a .exploded))
@@ -101,11 +102,12 @@ module _ (groups : List Entry) (distinct : Distinct groups) (room : ℕ) (a : Re
         ← times-ids (a .exploded) groups,
         ← times-ids (a .exploded) (entries a),
         ← taken-is,
+        ← twice-is,
         ← row-quota (a .exploded) groups (distinct (a .exploded)),
         length-map groups (λ (e : Entry). e .id),
         length-map (entries a) (λ (e : Entry). e .id),
       )
-      (five (idUnknown groups a) (notOneEntry a) (idInTable groups a || idTwice a) (quotasWrong groups a) (rowsFull room groups a) a
+      (six (idUnknown groups a) (notOneEntry a) (idInTable groups a) (idTwice a) (quotasWrong groups a) (rowsFull room groups a) a
       (λ _. answer (placeOf (idsOf groups) (length groups) (a .exploded))))
 
 -- the row that is answered
@@ -114,8 +116,9 @@ unfolding judgedIn
 judged-row id q room u ids sum e =
     let a = peel (eqb (ownRow id u) (length id)) _ _ e in
     let b = peel (not (eqb (timesIn u ids) 1)) _ _ (a .1) in
-    let c = peel (someId (takenIn u id ids) ids) _ _ (b .1) in
-    let d = peel (not (eqb sum (getD q (ownRow id u) 0))) _ _ (c .1) in
+    let c = peel (someId (takenIn u id) ids) _ _ (b .1) in
+    let t = peel (someId (twiceIn u ids) ids) _ _ (c .1) in
+    let d = peel (not (eqb sum (getD q (ownRow id u) 0))) _ _ (t .1) in
     let f = peel (ltb room (length id + length ids - 1)) _ _ (d .1) in
     let is = same-answer (f .1) in
     let z = eqb-false (ownRow id u) (length id) (a .0) in

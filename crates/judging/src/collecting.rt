@@ -10,6 +10,9 @@ ghost use Rattle.judging.specs.inside.Collecting.{idCapacity, othersThan
 use distinct::ids_differ;
 use rules::ROW_CAPACITY;
 
+// The ids of fewer entries than these are sooner compared as they stand.
+const MANY_ENTRIES: usize = 16;
+
 // Count + entries of a request that is accepted is at most this.
 const ID_CAPACITY: usize = ROW_CAPACITY + 1;
 
@@ -31,11 +34,14 @@ fn collect(ids: &[u32], x: u32, n: usize, all: &mut [u32; ID_CAPACITY]) -> usize
     m
 }
 
-// True only where no two of the ids but the exploded one are equal. False says nothing: it is the answer for more ids than the array
-// holds too.
+// True only where no two of the ids but the exploded one are equal. False says nothing: it is the answer for few entries, and for more ids
+// than the array holds.
 pub(crate) fn others_differ(id: &[u32], exploded: u32, ids: &[u32]) -> bool
     ensures { λ t. ⌜ (t ≡ true → allDiffer (othersThan exploded (old id) ++ othersThan exploded (old ids)) ≡ true) ⌝ }
 {
+    if ids.len() < MANY_ENTRIES {
+        return false;
+    }
     if ID_CAPACITY < id.len() + ids.len() {
         return false;
     }

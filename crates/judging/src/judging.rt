@@ -1,4 +1,4 @@
-// The refusals 20 to 24, one after another.
+// The refusals 20 to 24 and 26, one after another.
 ghost use mathlib.Core.Path.{_≡_};
 ghost use lib.ListN.{getD};
 ghost use Rattle.rules.specs.Lent.{old};
@@ -6,11 +6,9 @@ ghost use Rattle.judging.specs.Ids.{timesIn, someId};
 ghost use Rattle.judging.specs.Judging.{takenIn, judgedIn, judgedSays};
 use crate::Judged;
 use crate::collecting::others_differ;
+use distinct::ids_differ;
 use rules::Refusal;
 use table::place_of;
-
-// The ids of fewer entries than these are sooner counted than sorted.
-const MANY_ENTRIES: usize = 16;
 
 // How often x stands in a column.
 fn times(column: &[u32], x: u32) -> usize
@@ -27,31 +25,23 @@ fn times(column: &[u32], x: u32) -> usize
     k
 }
 
-// 22, for one entry's id: it isn't the exploded one, and it is in the table or comes twice.
-fn id_taken(id: &[u32], exploded: u32, ids: &[u32], x: u32) -> bool
-    ensures { λ t. ⌜ t ≡ takenIn exploded (old id) (old ids) x ⌝ }
+// 22, for one entry's id: it isn't the exploded one, and it is in the table.
+fn id_taken(id: &[u32], exploded: u32, x: u32) -> bool
+    ensures { λ t. ⌜ t ≡ takenIn exploded (old id) x ⌝ }
 {
     if x == exploded {
         return false;
     }
-    if 1 <= times(id, x) {
-        return true;
-    }
-    2 <= times(ids, x)
+    1 <= times(id, x)
 }
 
-// 22: another entry's id is in the table or comes twice. Where the quick test says nothing, the counts decide.
+// 22: another entry's id is in the table.
 fn some_id_taken(id: &[u32], exploded: u32, ids: &[u32]) -> bool
-    ensures { λ t. ⌜ t ≡ someId (takenIn exploded (old id) (old ids)) (old ids) ⌝ }
+    ensures { λ t. ⌜ t ≡ someId (takenIn exploded (old id)) (old ids) ⌝ }
 {
-    if MANY_ENTRIES <= ids.len() {
-        if others_differ(id, exploded, ids) {
-            return false;
-        }
-    }
     let mut i = 0;
     while i < ids.len() {
-        if id_taken(id, exploded, ids, ids[i]) {
+        if id_taken(id, exploded, ids[i]) {
             return true;
         }
         i += 1;
@@ -69,7 +59,7 @@ fn value_at(column: &[u32], i: usize) -> u32
     0
 }
 
-// 20 to 24 in that order, for a request that was read. `id` and `q` are the rows in use of a table whose columns have `room` rows, `ids`
+// 20, 21, 22, 26, 23 and 24 in that order, for a request that was read: where the quick test says nothing, 22 and 26 are looked for. `id` and `q` are the rows in use of a table whose columns have `room` rows, `ids`
 // are the ids of the entries, and `quota` is all their quota.
 pub fn judge(id: &[u32], q: &[u32], room: usize, exploded: u32, ids: &[u32], quota: u64) -> Judged
     ensures { λ t. ⌜ judgedSays t ≡ judgedIn (old id) (old q) room exploded (old ids) quota ⌝ }
@@ -81,8 +71,13 @@ pub fn judge(id: &[u32], q: &[u32], room: usize, exploded: u32, ids: &[u32], quo
     if times(ids, exploded) != 1 {
         return Judged::Refused(Refusal::ExplodedEntry);
     }
-    if some_id_taken(id, exploded, ids) {
-        return Judged::Refused(Refusal::IdTaken);
+    if !others_differ(id, exploded, ids) {
+        if some_id_taken(id, exploded, ids) {
+            return Judged::Refused(Refusal::IdTaken);
+        }
+        if !ids_differ(ids) {
+            return Judged::Refused(Refusal::IdTwice);
+        }
     }
     if quota != value_at(q, own) as u64 {
         return Judged::Refused(Refusal::QuotaSum);

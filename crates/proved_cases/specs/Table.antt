@@ -1,4 +1,4 @@
--- The cases that document 01 marks P, in its order; after its decisions, the lines that `may` prints of them, dates and pages. At the end, demand 3's last two clauses.
+-- The cases that document 01 marks P, in its order; after its requests, which id was taken; after its decisions, the lines that `may` prints of them, dates and pages. At the end, demand 3's last two clauses.
 use Prim.Native.Nat.{ℕ}
 use Prim.Native.String.{String}
 use mathlib.Core.Bool.{true, false}
@@ -151,6 +151,17 @@ cases =
     (row 1 1 1 1 ∷ row 2 2 2 1 ∷ [])
     ∷ grown 1 2 (request invertedRequest ∷ order 1 2 ∷ []) (count 2 ∷ says second ∷ []) (row 1 2 2 1 ∷ row 2 1 1 1 ∷ [])
     ∷ grown 1 1 (request (1 ∷ 0 ∷ 2 ∷ 1 ∷ 4294967295 ∷ 0 ∷ 2 ∷ 2 ∷ 0 ∷ []) ∷ []) (no 23 ∷ []) (row 1 1 1 1 ∷ [])
+    -- an id twice, with the quotas right and wrong; the greatest id twice; the exploded one twice; then 2 is made: it twice, and it once with 3 twice
+    ∷ grown 1 4
+    (request (1 ∷ 0 ∷ 3 ∷ 1 ∷ 2 ∷ 0 ∷ 2 ∷ 1 ∷ 0 ∷ 2 ∷ 1 ∷ 0 ∷ [])
+    ∷ request (1 ∷ 0 ∷ 3 ∷ 1 ∷ 1 ∷ 0 ∷ 2 ∷ 1 ∷ 0 ∷ 2 ∷ 1 ∷ 0 ∷ [])
+    ∷ request (1 ∷ 0 ∷ 3 ∷ 1 ∷ 2 ∷ 0 ∷ 4294967295 ∷ 1 ∷ 0 ∷ 4294967295 ∷ 1 ∷ 0 ∷ [])
+    ∷ request (1 ∷ 0 ∷ 4 ∷ 1 ∷ 1 ∷ 0 ∷ 2 ∷ 1 ∷ 0 ∷ 2 ∷ 1 ∷ 0 ∷ 1 ∷ 1 ∷ 0 ∷ [])
+    ∷ request (1 ∷ 0 ∷ 2 ∷ 1 ∷ 3 ∷ 0 ∷ 2 ∷ 1 ∷ 0 ∷ [])
+    ∷ request (1 ∷ 0 ∷ 3 ∷ 1 ∷ 1 ∷ 0 ∷ 2 ∷ 1 ∷ 0 ∷ 2 ∷ 1 ∷ 0 ∷ [])
+    ∷ request (1 ∷ 0 ∷ 4 ∷ 3 ∷ 1 ∷ 0 ∷ 1 ∷ 1 ∷ 0 ∷ 3 ∷ 1 ∷ 0 ∷ 2 ∷ 1 ∷ 0 ∷ []) ∷ [])
+    (no 26 ∷ no 26 ∷ no 26 ∷ no 21 ∷ count 2 ∷ no 22 ∷ no 22 ∷ [])
+    (row 1 1 2 3 ∷ row 2 4 1 1 ∷ [])
     ∷ asked 7 1 1 9 (grant 7 2 2 10 20 ∷ []) (answer (ahead 10))
     ∷ asked 7 1 1 10 (grant 7 2 2 10 20 ∷ []) (answer (onUntil 20))
     ∷ asked 7 1 1 20 (grant 7 2 2 10 20 ∷ []) (answer (onUntil 20))

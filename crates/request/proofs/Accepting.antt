@@ -61,17 +61,17 @@ unfolding accepted
 request-accepted room groups q h =
     let a = peel (idUnknown groups q) _ _ h in
     let b = peel (notOneEntry q) _ _ (a .1) in
-    let c = peel (idInTable groups q || idTwice q) _ _ (b .1) in
-    let o = or-none (idInTable groups q) (idTwice q) (c .0) in
-    let d = peel (quotasWrong groups q) _ _ (c .1) in
+    let c = peel (idInTable groups q) _ _ (b .1) in
+    let t = peel (idTwice q) _ _ (c .1) in
+    let d = peel (quotasWrong groups q) _ _ (t .1) in
     let e = peel (rowsFull room groups q) _ _ (d .1) in
     let once = eqb-true (times (q .exploded) (entries q)) 1 (not-false _ (b .0)) in
     let fits = ltb-false room (length groups + length (entries q) - 1) (e .0) in (
       record {
         known = leb-true 1 (times (q .exploded) groups) (not-false _ (a .0));
         once = once;
-        new = λ x n k. omega (arith, leb-false 1 (times x groups) (other q (λ y. has y groups) (o .0) x n k));
-        single = single q (o .1) once;
+        new = λ x n k. omega (arith, leb-false 1 (times x groups) (other q (λ y. has y groups) (c .0) x n k));
+        single = single q (t .0) once;
         whole = eqb-true (total (entries q)) (quotaOf (q .exploded) groups) (not-false _ (d .0));
         fits = omega arith;
       },
@@ -115,27 +115,3 @@ unfolding accepted
 accepted-alike room s t q h =
     let k : idInTable s q ≡ idInTable t q = some-alike _ _ (entries q) (λ e. rw (h (oneAt (e .id)))) in
     rw (k, h (oneAt (q .exploded)), h (quotaAt (q .exploded)), same-length s t h)
-
--- ## 22 entry by entry
-
-or-swap : (a b c d : Bool) → ((a || b) || (c || d)) ≡ ((a || c) || (b || d))
-or-swap true b c d = refl
-or-swap false true true d = refl
-or-swap false true false d = refl
-or-swap false false c d = refl
-
-some-or : (p r : Entry → Bool) (s : List Entry) → (someEntry p s || someEntry r s) ≡ someEntry (λ e. p e || r e) s
-unfolding someEntry
-some-or p r [] = refl
-some-or p r (e ∷ s) = or-swap (p e) (someEntry p s) (r e) (someEntry r s) ∙ ap (λ b. (p e || r e) || b) (some-or p r s)
-
-and-or : (a b c : Bool) → ((a && b) || (a && c)) ≡ (a && (b || c))
-and-or true b c = refl
-and-or false b c = refl
-
--- some other entry's id is in the table or comes twice
-pub taken-each : (groups : List Entry) (q : Request)
-    → (idInTable groups q || idTwice q) ≡ someEntry (λ e. not (eqb (e .id) (q .exploded)) && (has (e .id) groups || leb 2 (times (e .id) (entries q)))) (entries q)
-taken-each groups q =
-    some-or (λ e. not (eqb (e .id) (q .exploded)) && has (e .id) groups) (λ e. not (eqb (e .id) (q .exploded)) && leb 2 (times (e .id) (entries q))) (entries q)
-    ∙ some-alike _ _ (entries q) (λ e. and-or (not (eqb (e .id) (q .exploded))) (has (e .id) groups) (leb 2 (times (e .id) (entries q))))

@@ -1,5 +1,5 @@
--- When a request is accepted, from the groups of a state and the room for them: the refusals 20 to 24 (RULES.md, 7).
-use mathlib.Core.Bool.{Bool, cond, not, _&&_, _||_}
+-- When a request is accepted, from the groups of a state and the room for them: the refusals 20 to 24 and 26 (RULES.md, 7).
+use mathlib.Core.Bool.{Bool, cond, not, _&&_}
 use mathlib.Core.List.{List}
 use Prim.Native.Nat.{ℕ, _+_, _-_}
 use lib.Dec.{eqb, leb, ltb}
@@ -20,7 +20,7 @@ notOneEntry q = not (eqb (times (q .exploded) (entries q)) 1)
 abbrev pub idInTable : List Entry → Request → Bool
 idInTable groups q = someEntry (λ e. not (eqb (e .id) (q .exploded)) && has (e .id) groups) (entries q)
 
--- 22: or comes twice
+-- 26: another entry's id comes twice among the entries
 abbrev pub idTwice : Request → Bool
 idTwice q = someEntry (λ e. not (eqb (e .id) (q .exploded)) && leb 2 (times (e .id) (entries q))) (entries q)
 
@@ -37,7 +37,8 @@ unfoldable pub accepted : ℕ → List Entry → Request → Answer Request
 accepted room groups q =
     cond (idUnknown groups q) (refused 20)
     (cond (notOneEntry q) (refused 21)
-    (cond (idInTable groups q || idTwice q) (refused 22)
+    (cond (idInTable groups q) (refused 22)
+    (cond (idTwice q) (refused 26)
     (cond (quotasWrong groups q) (refused 23)
     (cond (rowsFull room groups q) (refused 24)
-    (answer q)))))
+    (answer q))))))

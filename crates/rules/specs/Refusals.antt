@@ -22,5 +22,6 @@ refusalNumber refusal.ExplodedEntry = 21
 refusalNumber refusal.IdTaken = 22
 refusalNumber refusal.QuotaSum = 23
 refusalNumber refusal.RowsFull = 24
+refusalNumber refusal.IdTwice = 26
 refusalNumber refusal.BufferShort = 30
 refusalNumber refusal.Undated = 31

@@ -48,12 +48,14 @@ pub enum Refusal {
     IdUnknown,
     // Exploded id isn't exactly one entry.
     ExplodedEntry,
-    // Another entry's id is in the table or comes twice.
+    // Another entry's id is in the table.
     IdTaken,
     // Quotas don't add up.
     QuotaSum,
     // Count + entries - 1 exceeds the column length.
     RowsFull,
+    // Another entry's id comes twice.
+    IdTwice,
     // Buffer shorter than the bytes needed.
     BufferShort,
     // A grant's first or last day is above 36525.
@@ -84,6 +86,7 @@ impl Refusal {
             Refusal::IdTaken => 22,
             Refusal::QuotaSum => 23,
             Refusal::RowsFull => 24,
+            Refusal::IdTwice => 26,
             Refusal::BufferShort => 30,
             Refusal::Undated => 31,
         }

@@ -17,10 +17,10 @@ use Rattle.judging.proofs.collecting.others_differ.Tie as tie
 most : (c : tie.After-collect2) → c .collect2 .result ≤ idCapacity
 most c =
     let f : tie.After-collect = search in
-    let b : tie.Else1 = search in
+    let b : tie.Else2 = search in
     let s : tie.Start = search in
     let a = s .args in
-    omega (arith, f .collect .ensures .end, c .collect2 .ensures .end, others-most (a .exploded) (now (a .id)), others-most (a .exploded) (now (a .ids)), b .if1 .left)
+    omega (arith, f .collect .ensures .end, c .collect2 .ensures .end, others-most (a .exploded) (now (a .id)), others-most (a .exploded) (now (a .ids)), b .if2 .left)
 
 held : (c : tie.After-collect2) → c .collect2 .result ≤ length (c .collect2 .last .1 .1 .1 .0)
 held c =
@@ -31,14 +31,15 @@ pub others-differ-spec : {M : Type 1} → statement M
 others-differ-spec =
     tie.close
     (tie.spec
+    (λ c e. absurd (true≢false (sym e)))
     (λ c. search needs)
     (λ c e. absurd (true≢false (sym e)))
     (λ c κs. search needs)
     (λ c κs.
     let f : tie.After-collect = search in
-    let b : tie.Else1 = search in
+    let b : tie.Else2 = search in
     let s : tie.Start = search in
-    omega (arith, f .collect .ensures .end, others-most (s .args .exploded) (now (s .args .id)), b .if1 .left))
+    omega (arith, f .collect .ensures .end, others-most (s .args .exploded) (now (s .args .id)), b .if2 .left))
     held
     (λ c. sym (length-take-le _ _ (held (c .before))))
     (λ c κs. search needs)

@@ -6,15 +6,13 @@ use lib.ListN.{length, drop, drop-of-length-le}
 use denote.Ref.{now}
 use Rattle.judging.specs.Ids.{someId}
 use Rattle.judging.specs.Judging.{takenIn}
-use Rattle.judging.proofs.Differing.{none-taken}
 use Rattle.judging.proofs.Ids.{some-here, some-past}
-use borrow.Author.Needs.{needs}
 use Rattle.judging.proofs.judging.some_id_taken.Statement.{statement}
 use Rattle.judging.proofs.judging.some_id_taken.Tie as tie
 
 abbrev Inv-loop : tie.InvT-loop
 Inv-loop id exploded ids i₀ i =
-    (i ≤ length ids) × (someId (takenIn exploded id ids) ids ≡ someId (takenIn exploded id ids) (drop i ids))
+    (i ≤ length ids) × (someId (takenIn exploded id) ids ≡ someId (takenIn exploded id) (drop i ids))
 
 abbrev μ-loop : tie.MeasureT-loop
 μ-loop id exploded ids i₀ i = length ids - i
@@ -26,10 +24,6 @@ some-id-taken-spec =
     (tie.spec
     Inv-loop
     μ-loop
-    (λ c κs. search needs)
-    (λ c.
-    let s : tie.Start Inv-loop μ-loop = search in
-    sym (none-taken (s .args .exploded) (now (s .args .id)) (now (s .args .ids)) (c .before .others-differ .ensures (c .if2 .taken))))
     (λ c. (omega arith, refl))
     (λ c. omega arith)
     (λ c. omega arith)
@@ -38,14 +32,14 @@ some-id-taken-spec =
     let o : tie.At-loop Inv-loop μ-loop = search in
     let s : tie.Start Inv-loop μ-loop = search in
     let t : tie.In-loop Inv-loop μ-loop = search in
-    sym (o .loop .inv .1 ∙ some-here (now (s .args .ids)) (o .loop .i) (t .loop-test .taken) _ (sym (c .before .id-taken .ensures) ∙ c .if3 .taken)))
+    sym (o .loop .inv .1 ∙ some-here (now (s .args .ids)) (o .loop .i) (t .loop-test .taken) _ (sym (c .before .id-taken .ensures) ∙ c .if1 .taken)))
     (λ c. omega arith)
     (λ c. omega arith)
     (λ c.
     let o : tie.At-loop Inv-loop μ-loop = search in
     let s : tie.Start Inv-loop μ-loop = search in
     let t : tie.In-loop Inv-loop μ-loop = search in
-    (omega arith, o .loop .inv .1 ∙ some-past (now (s .args .ids)) (o .loop .i) (t .loop-test .taken) _ (sym (c .before .id-taken .ensures) ∙ c .if3 .left)))
+    (omega arith, o .loop .inv .1 ∙ some-past (now (s .args .ids)) (o .loop .i) (t .loop-test .taken) _ (sym (c .before .id-taken .ensures) ∙ c .if1 .left)))
     (λ c.
     let o : tie.At-loop Inv-loop μ-loop = search in
     let s : tie.Start Inv-loop μ-loop = search in

@@ -11,7 +11,7 @@ number-spec =
     (tie.spec
     (λ c. search needs) (λ c. search needs) (λ c. search needs) (λ c. search needs) (λ c. search needs) (λ c. search needs) (λ c. search needs)
     (λ c. search needs) (λ c. search needs) (λ c. search needs) (λ c. search needs) (λ c. search needs) (λ c. search needs) (λ c. search needs)
-    (λ c. search needs) (λ c. search needs) (λ c. search needs) (λ c. search needs) (λ c. search needs) (λ c. search needs)
+    (λ c. search needs) (λ c. search needs) (λ c. search needs) (λ c. search needs) (λ c. search needs) (λ c. search needs) (λ c. search needs)
     (λ c. ap refusalNumber (sym (c .enum-told .given .1)))
     (λ c. ap refusalNumber (sym (c .enum-told2 .given .1)))
     (λ c. ap refusalNumber (sym (c .enum-told3 .given .1)))
@@ -31,4 +31,5 @@ number-spec =
     (λ c. ap refusalNumber (sym (c .enum-told17 .given .1)))
     (λ c. ap refusalNumber (sym (c .enum-told18 .given .1)))
     (λ c. ap refusalNumber (sym (c .enum-told19 .given .1)))
-    (λ c. ap refusalNumber (sym (c .enum-told20 .given .1))))
+    (λ c. ap refusalNumber (sym (c .enum-told20 .given .1)))
+    (λ c. ap refusalNumber (sym (c .enum-told21 .given .1))))
