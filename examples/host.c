@@ -84,6 +84,9 @@ static const uint8_t beside[] = {2, 0, 3, 2, 15, 0, 3, 15, 0, 4, 60, 0};
 static const uint8_t upright[] = {4, 0, 2, 4, 42, 0, 9, 6, 2, 10, 6, 0, 11, 6, 0};
 static const uint8_t inverted[] = {4, 1, 1, 8, 6, 1, 4, 24, 2, 6, 6, 0, 7, 6, 0};
 
+/* An id typed twice: 12. */
+static const uint8_t typed_twice[] = {4, 0, 3, 4, 12, 0, 12, 6, 0, 12, 6, 0};
+
 /* A grant of feature 7 at (96, 96), group 5's numbers, from day 10 to 20. */
 static const uint8_t grants[] = {7, 96, 96, 10, 20};
 
@@ -134,6 +137,8 @@ int main(void)
 
     /* The first request once more: the id 2 is taken by now. */
     take(&t, zintukor_refine(COLUMNS(&t), t.count, over, sizeof over));
+    /* An id that comes twice in a request is another refusal. */
+    take(&t, zintukor_refine(COLUMNS(&t), t.count, typed_twice, sizeof typed_twice));
 
     print_order(&t, 4, 5);
     print_order(&t, 2, 4);

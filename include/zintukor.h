@@ -37,9 +37,9 @@ extern "C" {
 
 /* The version of the library. */
 #define ZINTUKOR_VERSION_MAJOR 0
-#define ZINTUKOR_VERSION_MINOR 3
+#define ZINTUKOR_VERSION_MINOR 4
 #define ZINTUKOR_VERSION_PATCH 0
-#define ZINTUKOR_VERSION "0.3.0"
+#define ZINTUKOR_VERSION "0.4.0"
 
 /* The most rows that columns have. */
 #define ZINTUKOR_MOST_ROWS 256
@@ -84,9 +84,10 @@ extern "C" {
 #define ZINTUKOR_NO_QUESTION 15       /* feature, pass l or r, or day is 0 */
 #define ZINTUKOR_NO_ID_UNKNOWN 20     /* id named isn't in the table */
 #define ZINTUKOR_NO_EXPLODED_ENTRY 21 /* exploded id isn't exactly one entry */
-#define ZINTUKOR_NO_ID_TAKEN 22       /* another entry's id is in the table or comes twice */
+#define ZINTUKOR_NO_ID_TAKEN 22       /* another entry's id is in the table */
 #define ZINTUKOR_NO_QUOTA_SUM 23      /* quotas don't add up to the exploded quota */
 #define ZINTUKOR_NO_ROWS_FULL 24      /* count + entries - 1 exceeds the column length */
+#define ZINTUKOR_NO_ID_TWICE 26       /* another entry's id comes twice */
 #define ZINTUKOR_NO_BUFFER_SHORT 30   /* buffer shorter than the bytes needed */
 #define ZINTUKOR_NO_UNDATED 31        /* a grant's first or last day has no date: it is above 36525 */
 
@@ -106,7 +107,7 @@ uint64_t zintukor_fresh(uint32_t *id, size_t id_length,
  * number of children. The exploded id keeps its row, the other entries take the next rows,
  * and no other row is written.
  * Answers COUNT and the new count. Refusals: 10 to 13, then those of the request's bytes
- * from left to right (1 to 7), then 20 to 24.
+ * from left to right (1 to 7), then 20, 21, 22, 26, 23, 24.
  */
 uint64_t zintukor_refine(uint32_t *id, size_t id_length,
                          uint32_t *l, size_t l_length,

@@ -51,9 +51,10 @@ refusals! {
     Question = 15, "the feature, the pass or the day asked about is 0";
     IdUnknown = 20, "a group that is named isn't in the table";
     ExplodedEntry = 21, "the group to break up must be exactly one of the request's entries";
-    IdTaken = 22, "a new group's id is in the table already or comes twice in the request";
+    IdTaken = 22, "a new group's id is in the table already";
     QuotaSum = 23, "the entries' quotas don't add up to the quota of the group to break up";
     RowsFull = 24, "the columns have too few rows for the new groups";
+    IdTwice = 26, "a new group's id comes twice in the request";
     BufferShort = 30, "the buffer is too short for the stored table or the page";
     Undated = 31, "a grant's first or last day has no date: it is above 36525";
 }

@@ -333,7 +333,7 @@ const LAST_DATED: u32 = 36_525;
 /// The refusals that each call can give, and its other answers.
 const CALLS: [(&str, &[u32], &[&str]); 7] = [
     ("fresh", &[10, 11], &["count"]),
-    ("refine", &[1, 2, 3, 4, 5, 6, 7, 10, 11, 12, 13, 20, 21, 22, 23, 24], &["count"]),
+    ("refine", &[1, 2, 3, 4, 5, 6, 7, 10, 11, 12, 13, 20, 21, 22, 23, 24, 26], &["count"]),
     ("order", &[10, 11, 12, 13, 20], &["same", "first", "second", "incomparable"]),
     ("decide", &[1, 2, 14, 15], &["open", "until", "ended", "ahead", "never"]),
     ("page", &[1, 2, 14, 15, 30, 31], &["count"]),

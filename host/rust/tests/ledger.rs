@@ -241,7 +241,7 @@ fn many_short_lists() {
     if !common::rng::one_seed() {
         assert!(accepted > 3_000 && followed_on > 5_000);
         let seen: Vec<u32> = refused.keys().copied().collect();
-        assert_eq!(seen, [1, 2, 3, 4, 5, 6, 7, 20, 21, 22, 23, 24]);
+        assert_eq!(seen, [1, 2, 3, 4, 5, 6, 7, 20, 21, 22, 23, 24, 26]);
     }
 }
 

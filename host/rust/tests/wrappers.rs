@@ -8,7 +8,7 @@ use zintukor::{Decision, Grant, Order, Pass, Refusal, Request, Table};
 
 #[test]
 fn each_refusal_has_its_number_and_its_text() {
-    let numbers = [1, 2, 3, 4, 5, 6, 7, 10, 11, 12, 13, 14, 15, 20, 21, 22, 23, 24, 30, 31];
+    let numbers = [1, 2, 3, 4, 5, 6, 7, 10, 11, 12, 13, 14, 15, 20, 21, 22, 23, 24, 26, 30, 31];
     let all: Vec<u32> = Refusal::ALL.iter().map(|refusal| refusal.number()).collect();
     assert_eq!(all, numbers);
     for number in (0..=1_000).chain([u32::MAX]) {

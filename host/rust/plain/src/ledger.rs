@@ -59,11 +59,13 @@ impl Ledger {
         if request.entries.iter().filter(|entry| entry.id == u).count() != 1 {
             return Err(Refused(21));
         }
+        let mut others = request.entries.iter().map(|entry| entry.id).filter(|&id| id != u);
+        if others.clone().any(|id| self.quotas.contains_key(&id)) {
+            return Err(Refused(22));
+        }
         let mut met = HashSet::new();
-        for entry in request.entries.iter().filter(|entry| entry.id != u) {
-            if self.quotas.contains_key(&entry.id) || !met.insert(entry.id) {
-                return Err(Refused(22));
-            }
+        if !others.all(|id| met.insert(id)) {
+            return Err(Refused(26));
         }
         if request.entries.iter().map(|entry| u64::from(entry.quota)).sum::<u64>() != u64::from(quota) {
             return Err(Refused(23));

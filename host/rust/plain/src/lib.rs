@@ -1,4 +1,4 @@
-//! Document 01 and notes 1 and 2 of document 02 in plain Rust, written from their sentences and
+//! Document 01 and notes 1 to 3 of document 02 in plain Rust, written from their sentences and
 //! from nothing else.
 //!
 //! The tests compare the engine with it, answer by answer and column by column, and the

@@ -43,7 +43,7 @@ pub fn refine(
     Ok(after)
 }
 
-/// 21: the exploded id isn't exactly one entry. 22: another entry's id is in the table or
+/// 21: the exploded id isn't exactly one entry. 22: another entry's id is in the table. 26: or
 /// comes twice.
 fn entries_fit(request: &Request, table: &[u32], row: usize) -> Result<(), Refused> {
     if request.entries.iter().filter(|entry| entry.id == request.exploded).count() != 1 {
@@ -55,10 +55,12 @@ fn entries_fit(request: &Request, table: &[u32], row: usize) -> Result<(), Refus
         *id = entry.id;
     }
     ids.sort_unstable();
-    let twice = ids.windows(2).any(|two| two[0] == two[1]);
     let taken = |(at, id): (usize, &u32)| at != row && ids.binary_search(id).is_ok();
-    if twice || table.iter().enumerate().any(taken) {
+    if table.iter().enumerate().any(taken) {
         return Err(Refused(22));
+    }
+    if ids.windows(2).any(|two| two[0] == two[1]) {
+        return Err(Refused(26));
     }
     Ok(())
 }

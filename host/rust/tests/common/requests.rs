@@ -137,7 +137,7 @@ pub fn break_rule(rng: &mut Rng, numbers: &mut Vec<u32>, lent: &Lent, count: usi
     let (one, other) = (id_at(rng.below(entries)), id_at(rng.below(entries)));
     let table = lent.id.part()[rng.below(count)];
     let exploded = numbers[0];
-    match rng.below(22) {
+    match rng.below(23) {
         0 => numbers[0] = 0,
         1 => numbers[1] = rng.pick(&[2, 3, 127, 128, 256, u32::MAX]),
         2 => numbers[2] = 0,
@@ -168,6 +168,11 @@ pub fn break_rule(rng: &mut Rng, numbers: &mut Vec<u32>, lent: &Lent, count: usi
         15 | 16 => numbers[one] = table,
         17 | 18 => numbers[one] = numbers[other],
         19 | 20 => numbers[one] = rng.number(),
+        21 => {
+            // An id twice, and one of the table.
+            numbers[one] = numbers[other];
+            numbers[id_at(rng.below(entries))] = table;
+        }
         _ => {
             numbers.remove(one);
         }
