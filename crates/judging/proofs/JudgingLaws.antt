@@ -1,4 +1,4 @@
--- The refusals 20 to 24 and 26, one after another, from what the code finds.
+-- The refusals 20 to 26, one after another, from what the code finds.
 use mathlib.Core.Path.{_≡_, ap, sym, _∙_}
 use mathlib.Core.Bool.{true, false}
 use mathlib.Core.List.{List}

@@ -1,4 +1,4 @@
--- The refusals 20 to 24 and 26 (RULES.md, 7) as the code finds them, from the ids of the table's rows and of the entries.
+-- The refusals 20 to 26 (RULES.md, 7) as the code finds them, from the ids of the table's rows and of the entries.
 use mathlib.Core.Bool.{Bool, cond, not, _&&_}
 use mathlib.Core.List.{List}
 use Prim.Native.Nat.{ℕ, _+_, _-_}

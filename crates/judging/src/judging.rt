@@ -1,4 +1,4 @@
-// The refusals 20 to 24 and 26, one after another.
+// The refusals 20 to 26, one after another.
 ghost use mathlib.Core.Path.{_≡_};
 ghost use lib.ListN.{getD};
 ghost use Rattle.rules.specs.Lent.{old};
@@ -59,8 +59,9 @@ fn value_at(column: &[u32], i: usize) -> u32
     0
 }
 
-// 20, 21, 22, 26, 23 and 24 in that order, for a request that was read: where the quick test says nothing, 22 and 26 are looked for. `id` and `q` are the rows in use of a table whose columns have `room` rows, `ids`
-// are the ids of the entries, and `quota` is all their quota.
+// 20, 21, 22, 26, 23 and 24 in that order, for a request that was read. `id` and `q` are the rows in use of a table whose columns have
+// `room` rows, `ids` are the ids of the entries, and `quota` is all their quota. Where the quick test says nothing, 22 and 26 are looked for;
+// as the exploded id comes once, 26 is that the entries' ids do not all differ.
 pub fn judge(id: &[u32], q: &[u32], room: usize, exploded: u32, ids: &[u32], quota: u64) -> Judged
     ensures { λ t. ⌜ judgedSays t ≡ judgedIn (old id) (old q) room exploded (old ids) quota ⌝ }
 {

@@ -1,4 +1,4 @@
-// Judging: the refusals 20 to 24 and 26 (RULES.md, 7) of a request that was read, found without a write.
+// Judging: the refusals 20 to 26 (RULES.md, 7) of a request that was read, found without a write.
 mod collecting;
 mod judging;
 

@@ -43,11 +43,11 @@ newRows q t = map (rowFor q (rowIn (q .exploded) t)) (without (q .exploded) (ent
 unfoldable pub refineRows : Request → List Row → List Row
 refineRows q t = keptRows q t ++ newRows q t
 
--- the rows after a request that was read: 20 to 24, or the new rows
+-- the rows after a request that was read: 20 to 26, or the new rows
 unfoldable pub explodedRows : ℕ → List Row → Request → Answer (List Row)
 explodedRows room t q = then (accepted room (groupsOf t) q) λ _. answer (refineRows q t)
 
--- 10 to 13 in that order, the request from left to right, then 20 to 24
+-- 10 to 13 in that order, the request from left to right, then 20, 21, 22, 26, 23, 24
 unfoldable pub refined : Columns → ℕ → List ℕ → Answer (List Row)
 refined c count bytes = then (checked c count) λ t. then (requestOf bytes) λ q. explodedRows (length (c .id)) t q
 

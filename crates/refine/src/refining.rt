@@ -1,4 +1,4 @@
-// Refine: the check, the request, the refusals 20 to 24, and then the rows.
+// Refine: the check, the request, the refusals 20 to 26, and then the rows.
 ghost use mathlib.Core.Path.{_≡_};
 ghost use Prim.Native.Nat.{_≤_};
 ghost use lib.ListN.{length, take};
@@ -21,7 +21,7 @@ use table::Checked;
 use table::Counted;
 use table::check_columns;
 
-// 20 to 24, on the rows and the entries in use.
+// 20 to 26, on the rows and the entries in use.
 fn judge_rows(
     id: &[u32],
     q: &[u32],
@@ -44,7 +44,7 @@ fn judge_rows(
     )
 }
 
-// 10 to 13, the request, and 20 to 24, without a write to the table. The work columns take the request's entries: ids, quotas, and the
+// 10 to 13, the request, and 20 to 26, without a write to the table. The work columns take the request's entries: ids, quotas, and the
 // quotas before each in L and in R.
 fn judge_request(
     id: &[u32],
@@ -85,8 +85,8 @@ fn judge_request(
     }
 }
 
-// Explodes a group into the entries of a request: 10 to 13, the request from left to right, then 20 to 24. Accepted, the exploded id
-// keeps its row, the other entries take the next rows, and the answer is the new count; refused, no column changes.
+// Explodes a group into the entries of a request: 10 to 13, the request from left to right, then 20, 21, 22, 26, 23, 24. Accepted, the
+// exploded id keeps its row, the other entries take the next rows, and the answer is the new count; refused, no column changes.
 pub fn refine(
     id: &mut [u32],
     l: &mut [u32],

@@ -4,5 +4,6 @@ pub mod Numbering
 pub mod TreeSteps
 pub mod ReadLaws
 pub mod Accepting
+pub mod Taken
 pub mod Bytes
 pub mod Reversed

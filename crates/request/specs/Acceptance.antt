@@ -1,4 +1,4 @@
--- When a request is accepted, from the groups of a state and the room for them: the refusals 20 to 24 and 26 (RULES.md, 7).
+-- When a request is accepted, from the groups of a state and the room for them: the refusals 20 to 26 (RULES.md, 7).
 use mathlib.Core.Bool.{Bool, cond, not, _&&_}
 use mathlib.Core.List.{List}
 use Prim.Native.Nat.{ℕ, _+_, _-_}

@@ -6,3 +6,4 @@ pub mod Legal
 pub mod Bytes
 pub mod Reading
 pub mod Acceptance
+pub mod Promise
