@@ -46,11 +46,12 @@ pub fn table(groups: usize) -> Table {
 }
 
 /// A request for a group of the table with so many entries: trees of four, a child of each root
-/// having a child of its own.
-pub fn request(table: &Table, entries: u32) -> Vec<u8> {
+/// having a child of its own. `twice`: the last two have one id.
+pub fn request(table: &Table, entries: u32, twice: bool) -> Vec<u8> {
     let row = table.rows().max_by_key(|row| row.quota).unwrap();
     let share = row.quota / entries;
-    let id = |at: u32| if at == 0 { row.id } else { 70_000 + at };
+    let last = if twice { entries - 2 } else { entries - 1 };
+    let id = |at: u32| if at == 0 { row.id } else { 70_000 + at.min(last) };
     let quota = |at: u32| if at == 0 { row.quota - (entries - 1) * share } else { share };
     let one = |at: u32| entry(id(at), quota(at));
     let tree = |at: u32| match entries - at {

@@ -110,14 +110,15 @@ fn pages() {
     page(&mut Sizes::new("page"), "none applies", pass, &aside);
 }
 
-fn refine(sizes: &mut Sizes, table: &Table, entries: u32) {
-    let request = inputs::request(table, entries);
+fn refine(sizes: &mut Sizes, table: &Table, entries: u32, twice: bool) {
+    let request = inputs::request(table, entries, twice);
     let count = table.count();
     let from = table.columns();
     let (mut one, mut other) = (from.clone(), from.clone());
     let Columns { id, l, r, q } = &mut other;
-    let plain = zintukor_plain::refine(id, l, r, q, count, &request).unwrap();
-    assert_eq!(zintukor::refine(&mut one, count, &request), Ok(plain));
+    let plain = zintukor_plain::refine(id, l, r, q, count, &request).map_err(|refused| refused.0);
+    assert_eq!(plain.is_err(), twice);
+    assert_eq!(zintukor::refine(&mut one, count, &request).map_err(|refusal| refusal.number()), plain);
     assert_eq!(one, other);
     let times = compare(
         &mut vec![from.clone(); 64],
@@ -125,17 +126,20 @@ fn refine(sizes: &mut Sizes, table: &Table, entries: u32) {
         |copy| zintukor::refine(copy, count, black_box(&request)),
         |Columns { id, l, r, q }| zintukor_plain::refine(id, l, r, q, count, black_box(&request)),
     );
-    sizes.row(&format!("{count} rows, {entries} entries"), times);
+    sizes.row(&format!("{count} rows, {entries} entries{}", if twice { ", an id twice" } else { "" }), times);
 }
 
 fn refines() {
     let mut sizes = Sizes::new("refine");
     for groups in [1, 16, 64, 250] {
-        refine(&mut sizes, &inputs::table(groups), 4);
+        refine(&mut sizes, &inputs::table(groups), 4, false);
     }
     let mut sizes = Sizes::new("refine");
     for (groups, entries) in [(1, 16), (1, 64), (1, 256), (128, 128)] {
-        refine(&mut sizes, &inputs::table(groups), entries);
+        refine(&mut sizes, &inputs::table(groups), entries, false);
+    }
+    for (groups, entries) in [(1, 4), (1, 256), (128, 128)] {
+        refine(&mut Sizes::new("refine"), &inputs::table(groups), entries, true);
     }
 }
 
