@@ -1,10 +1,13 @@
-// A log's reading (RULES.md, 14.1): its fresh pair, and where each request stands.
+// A log's reading (RULES.md, 14.1): its fresh pair, where each request stands, and the room that its text asks for.
+mod room;
+
 ghost use mathlib.Core.Path.{_≡_};
 ghost use Rattle.rules.specs.Lent.{old};
 ghost use Rattle.log.specs.Log.{pairOf, partAt};
 ghost use Rattle.log.specs.Says.{pairSays, partSays};
 use number::Drawn;
 use number::number_at;
+pub use room::no_room;
 use rules::Refusal;
 
 // The fresh pair that begins a log.

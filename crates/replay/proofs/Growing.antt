@@ -17,7 +17,8 @@ use Rattle.table.proofs.Lengths.{lengths-good, good-count, put-length, put-leng
 use Rattle.log.specs.Log.{Pair, pairOf}
 use Rattle.log.proofs.Laws.{pair-in}
 use Rattle.lines.specs.Lines.{lineText}
-use Rattle.replay.specs.Replay.{Replay, replayOf, textOf, columnsAfter, growText, growColumns, growRoom, growAnswer, growBuffer, growTable}
+use Rattle.log.specs.Room.{growRoom}
+use Rattle.replay.specs.Replay.{Replay, replayOf, textOf, columnsAfter, growText, growColumns, growAnswer, growBuffer, growTable}
 use Rattle.replay.specs.declared.Grown.{Grown}
 use Rattle.replay.specs.declared.Grown.the-variants.{Text, NoRoom}
 use Rattle.replay.specs.inside.Carrying.{carried}

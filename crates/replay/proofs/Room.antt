@@ -20,7 +20,8 @@ use Rattle.lines.specs.Lines.{lineText, columnsBad}
 use Rattle.lines.proofs.Laws.{line-most, table-most}
 use Rattle.table.specs.Columns.{Table, rowsIn}
 use Rattle.refine.specs.Refine.{answerTo, tableAfter}
-use Rattle.replay.specs.Replay.{Replay, replayFrom, textOf, growText, growRoom, growAnswer, growBuffer, lineRoom, tableRoom}
+use Rattle.log.specs.Room.{growRoom, lineRoom, tableRoom}
+use Rattle.replay.specs.Replay.{Replay, replayFrom, textOf, growText, growAnswer, growBuffer}
 use Rattle.replay.specs.inside.Carrying.{carried}
 use Rattle.replay.specs.declared.Grown.{Grown}
 use Rattle.replay.specs.declared.Grown.the-variants.{Text, NoRoom}

@@ -2,17 +2,14 @@
 use mathlib.Core.Path.{_≡_, refl, ap, sym, _∙_}
 use mathlib.Core.Bool.{false}
 use mathlib.Core.List.{List, _++_, flatMap, append-assoc}
-use Prim.Native.Nat.{ℕ, _+_, _*_, _-_, _/_, _≤_}
+use Prim.Native.Nat.{ℕ, _+_, _≤_}
 use native.Mathlib.Omega.{arith}
-use lib.Dec.{ltb}
 use lib.ListN.{length}
-use borrow.Author.Tests.{lt-ltb, le-ltb}
 use Rattle.rules.specs.Answers.{Answer, answer, refused, orElse}
 use Rattle.rules.specs.Buffers.{written, after}
 use Rattle.rules.specs.Limits.{mostRows}
 use Rattle.rules.proofs.Answers.{same-answer, never-refused}
 use Rattle.rules.proofs.Buffers.{written-all}
-use Rattle.rules.proofs.Cases.{by-lt}
 use Rattle.rules.proofs.Bools.{or-none}
 use Rattle.request.proofs.ReadLaws.{request-read}
 use Rattle.table.specs.Columns.{Row, Columns, put, counted, afterwards}
@@ -27,7 +24,8 @@ use Rattle.lines.proofs.Laws.{columns-good, line-most}
 use Rattle.table.specs.Columns.{Table, rowsIn}
 use Rattle.refine.specs.Refine.{answerTo, tableAfter}
 use Rattle.replay.specs.Run.{answersTo, tableEnd}
-use Rattle.replay.specs.Replay.{Replay, endText, replayFrom, growRoom, lineRoom, tableRoom}
+use Rattle.log.specs.Room.{lineRoom}
+use Rattle.replay.specs.Replay.{Replay, endText, replayFrom}
 use Rattle.replay.specs.inside.Carrying.{Countable}
 
 -- ## The table after a request
@@ -71,14 +69,6 @@ answer-countable t request h = go (refined (t .columns) (t .count) request) (λ 
     go (refused n) k = tt
 
 -- ## A line
-
--- the room for the text, by what is left for the lines
-pub room-same : (room bytes : ℕ) → tableRoom ≤ room → ltb ((room - tableRoom) / lineRoom) bytes ≡ ltb room (growRoom bytes)
-unfolding growRoom
-room-same room bytes h =
-    by-lt room (lineRoom * bytes + tableRoom)
-    (λ k. lt-ltb ((room - tableRoom) / lineRoom) bytes (omega arith) ∙ sym (lt-ltb room (lineRoom * bytes + tableRoom) k))
-    (λ k. le-ltb ((room - tableRoom) / lineRoom) bytes (omega arith) ∙ sym (le-ltb room (lineRoom * bytes + tableRoom) k))
 
 -- a count that is printed
 pub countable : (a : Answer ℕ) {n : ℕ} → Countable a → a ≡ answer n → n ≤ mostRows

@@ -1,5 +1,5 @@
 -- What a log leads to (RULES.md, 14.1): the table after it, and the text that is printed.
-use Prim.Native.Nat.{ℕ, _+_, _*_}
+use Prim.Native.Nat.{ℕ}
 use mathlib.Core.Bool.{cond}
 use mathlib.Core.List.{List, [], _++_, flatMap}
 use lib.Dec.{leb}
@@ -10,6 +10,7 @@ use Rattle.rules.specs.Limits.{mostRows}
 use Rattle.table.specs.Columns.{Columns, Table, columns, put, rowsIn}
 use Rattle.fresh.specs.Fresh.{freshRows}
 use Rattle.log.specs.Log.{pairOf, Requests, requestsAt}
+use Rattle.log.specs.Room.{growRoom}
 use Rattle.lines.specs.Lines.{lineText, tableText}
 use Rattle.replay.specs.Run.{answersTo, tableEnd}
 use Rattle.replay.specs.declared.Grown.{Grown}
@@ -57,16 +58,6 @@ growText c log = textOf (replayOf c log)
 
 abbrev pub growColumns : Columns → List ℕ → Columns
 growColumns c log = columnsAfter (replayOf c log) c
-
--- the room for the text of any log of this length: so much for each byte of the log, and for the table
-abbrev pub lineRoom : ℕ
-lineRoom = 14
-
-abbrev pub tableRoom : ℕ
-tableRoom = 16384
-
-unfoldable pub growRoom : ℕ → ℕ
-growRoom bytes = lineRoom * bytes + tableRoom
 
 -- the text with its byte count; no room where the buffer is shorter than that, and then nothing is carried out or written
 unfoldable pub growAnswer : Columns → List ℕ → List ℕ → Grown

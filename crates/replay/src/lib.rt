@@ -2,7 +2,6 @@
 ghost use mathlib.Core.Path.{_≡_};
 ghost use mathlib.Core.Bool.{false};
 ghost use Prim.Native.Nat.{_+_, _*_, _-_, _≤_};
-ghost use lib.Dec.{ltb};
 ghost use lib.ListN.{length};
 ghost use Rattle.rules.specs.Answers.{orElse};
 ghost use Rattle.rules.specs.Buffers.{after};
@@ -12,7 +11,8 @@ ghost use Rattle.table.specs.Says.{countedSays};
 ghost use Rattle.table.specs.Lent.{oldColumns, newColumns, lentColumns};
 ghost use Rattle.lines.specs.Lines.{lineText, columnsBad};
 ghost use Rattle.lines.specs.Says.{lineSays};
-ghost use Rattle.replay.specs.Replay.{growAnswer, growBuffer, growTable, growRoom, lineRoom, tableRoom};
+ghost use Rattle.log.specs.Room.{lineRoom, tableRoom};
+ghost use Rattle.replay.specs.Replay.{growAnswer, growBuffer, growTable};
 ghost use Rattle.replay.specs.inside.Carrying.{Countable, carried};
 use fresh::fresh;
 use lines::Line;
@@ -20,6 +20,7 @@ use lines::write_line;
 use lines::write_table;
 use log::PairRead;
 use log::PartRead;
+use log::no_room;
 use log::pair_of;
 use log::part_at;
 use number::Written;
@@ -33,21 +34,6 @@ pub enum Grown {
     Text(usize),
     // The buffer is shorter than the room that is asked for, and nothing was carried out.
     NoRoom,
-}
-
-// What the table needs of the text's room.
-const TABLE_ROOM: usize = 16384;
-// What a line needs, for each byte of the log.
-const LINE_ROOM: usize = 14;
-
-// The text's buffer is too short for some log of this length.
-fn no_room(bytes: usize, room: usize) -> bool
-    ensures { λ t. ⌜ t ≡ ltb room (growRoom bytes) ⌝ }
-{
-    if room < TABLE_ROOM {
-        return true;
-    }
-    (room - TABLE_ROOM) / LINE_ROOM < bytes
 }
 
 // How many bytes were written.

@@ -8,7 +8,8 @@ use lib.Seq.{length-take-le}
 use denote.Ref.{now}
 use Rattle.rules.specs.Limits.{mostRows}
 use Rattle.table.specs.Columns.{columns}
-use Rattle.replay.specs.Replay.{blank, growRoom, growAnswer, growBuffer}
+use Rattle.log.specs.Room.{growRoom}
+use Rattle.replay.specs.Replay.{blank, growAnswer, growBuffer}
 use Rattle.replay.proofs.Room.{grown-text, grown-room}
 use borrow.Author.Needs.{needs}
 use Rattle.grow.proofs.write_text.Statement.{statement}

@@ -8,7 +8,7 @@ use denote.Ref.{now}
 use Rattle.table.specs.Columns.{Columns, columns}
 use Rattle.table.specs.Says.{countedSays}
 use Rattle.log.specs.Says.{pairSays}
-use Rattle.replay.specs.Replay.{growRoom}
+use Rattle.log.specs.Room.{growRoom}
 use Rattle.replay.proofs.Growing.{pair-bad, fresh-bad, fresh-good, no-room, grows-bad, grows-good}
 use borrow.Author.Needs.{needs}
 use Rattle.replay.proofs.grow.Statement.{statement}

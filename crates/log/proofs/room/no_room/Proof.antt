@@ -1,11 +1,11 @@
--- `replay::no_room` meets its contract.
+-- `log::room::no_room` meets its contract.
 use mathlib.Core.Path.{sym}
 use native.Mathlib.Omega.{arith}
 use borrow.Author.Tests.{lt-ltb}
-use Rattle.replay.specs.Replay.{growRoom}
-use Rattle.replay.proofs.Running.{room-same}
-use Rattle.replay.proofs.no_room.Statement.{statement}
-use Rattle.replay.proofs.no_room.Tie as tie
+use Rattle.log.specs.Room.{growRoom}
+use Rattle.log.proofs.TextRoom.{room-same}
+use Rattle.log.proofs.room.no_room.Statement.{statement}
+use Rattle.log.proofs.room.no_room.Tie as tie
 
 pub no-room-spec : {M : Type 1} → statement M
 unfolding growRoom
