@@ -2,13 +2,15 @@
 ghost use mathlib.Core.Path.{_≡_};
 ghost use Prim.Native.Nat.{_≤_};
 ghost use Rattle.rules.specs.Limits.{mostEntries};
-ghost use Rattle.number.specs.Says.{drawnSays};
-ghost use Rattle.request.specs.Reading.{positiveOf, entryAt, treesAt, requestOf};
+ghost use Rattle.request.specs.Reading.{treesAt, requestOf};
 ghost use Rattle.reading.specs.Says.{requestSays, summary};
 ghost use Rattle.reading.specs.Work.{oldWork, newWork, workAfter};
-ghost use Rattle.reading.specs.inside.Says.{entrySays, walkSays};
+ghost use Rattle.reading.specs.inside.Says.{walkSays};
 ghost use Rattle.reading.specs.inside.Work.{Walked, walkEnd, RequestIn};
 ghost use Rattle.rules.specs.Lent.{old};
+use entries::EntryDrawn;
+use entries::entry_at;
+use entries::positive;
 use number::Drawn;
 use rules::ENTRY_CAPACITY;
 use rules::GREATEST_DEPTH;
@@ -27,53 +29,11 @@ pub enum RequestRead {
     Refused(Refusal),
 }
 
-// An entry as it is read.
-enum EntryDrawn {
-    // Id, quota, number of children, and the position after them.
-    Entry(u32, u32, u32, usize),
-    Refused(Refusal),
-}
-
 // Where a walk over child counts came to.
 enum Walk {
     // The next position, the next entry, and the subtrees' quota.
     End(usize, usize, u64),
     Refused(Refusal),
-}
-
-// A number that may not be 0.
-fn positive(drawn: Drawn) -> Drawn
-    ensures { λ t. ⌜ drawnSays t ≡ positiveOf (drawnSays drawn) ⌝ }
-{
-    match drawn {
-        Drawn::Refused(why) => Drawn::Refused(why),
-        Drawn::Number(value, next) => {
-            if value == 0 {
-                return Drawn::Refused(Refusal::Zero);
-            }
-            Drawn::Number(value, next)
-        }
-    }
-}
-
-// The entry at a position: its three numbers are drawn, and then judged from left to right.
-fn entry_at(bytes: &[u8], at: usize) -> EntryDrawn
-    ensures { λ t. ⌜ entrySays t ≡ entryAt (old bytes) at ⌝ }
-{
-    let three = reader::three_at(bytes, at);
-    let first = three.first;
-    let second = three.second;
-    let third = three.third;
-    match positive(first) {
-        Drawn::Refused(why) => EntryDrawn::Refused(why),
-        Drawn::Number(id, _) => match positive(second) {
-            Drawn::Refused(why) => EntryDrawn::Refused(why),
-            Drawn::Number(quota, _) => match third {
-                Drawn::Refused(why) => EntryDrawn::Refused(why),
-                Drawn::Number(children, next) => EntryDrawn::Entry(id, quota, children, next),
-            },
-        },
-    }
 }
 
 // The trees from a position on: a walk over child counts, with the remaining depth `room` falling. Each entry takes the next place of

@@ -25,7 +25,6 @@ use log::pair_of;
 use log::part_at;
 use number::Written;
 use refine::refine;
-use rules::Refusal;
 use table::Counted;
 
 // What carrying out a log answers.

@@ -8,14 +8,15 @@ use denote.Ref.{now}
 use Prim.Native.Nat.{ℕ, _<_}
 use borrow.Fn.Kinds.{In}
 use borrow.Fn.PlainCycle.{Measures, is, falls, and}
-use Rattle.reading.specs.inside.Says.{entrySays, walkSays}
+use Rattle.entries.specs.Says.{entrySays}
+use Rattle.reading.specs.inside.Says.{walkSays}
 use Rattle.reading.specs.Work.{work}
 use Rattle.reading.proofs.Walking.{Reading, Inner, begin, refuse, ended, again, again-alone, sum-bound, inner-found, walk-refused}
 use Rattle.request.proofs.TreeSteps.{tree-full, tree-deep, tree-cut, below-refused}
 use Rattle.reading.proofs.read_trees.Reads as read-trees
 use Rattle.reading.proofs.read_trees.Kinds as read-trees-kinds
 use Rattle.reading.proofs.+read_trees.Lts-read_trees as lts
-use Rattle.reading.proofs.entry_at.Reads as entry-at-reads
+use Rattle.entries.proofs.entry_at.Reads as entry-at-reads
 use Rattle.reading.proofs.+read_trees.{statement}
 use Rattle.reading.proofs.+read_trees.Tie.{close}
 

@@ -8,7 +8,8 @@ use Rattle.number.specs.Says.{drawnSays}
 use Rattle.reader.proofs.Drawing.{first-drawn, second-drawn, third-drawn}
 use Rattle.request.specs.Reading.{positiveAt}
 use Rattle.reading.specs.inside.Says.{walkSays}
-use Rattle.reading.proofs.Parts.{positive-at, positive-number, Begun, refusal, no-exploded, no-direction, odd-direction, no-count, no-trees, remain, read-whole}
+use Rattle.entries.proofs.Parts.{positive-at, positive-number}
+use Rattle.reading.proofs.Parts.{Begun, refusal, no-exploded, no-direction, odd-direction, no-count, no-trees, remain, read-whole}
 use Rattle.reading.proofs.Walking.{walk-refused}
 use borrow.Author.Needs.{needs}
 use Rattle.reading.proofs.read_parts.Statement.{statement}

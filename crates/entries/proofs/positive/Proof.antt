@@ -1,10 +1,10 @@
--- `reading::positive` meets its contract: the number that was drawn, and 4 where it is 0.
+-- `entries::positive` meets its contract: the number that was drawn, and 4 where it is 0.
 use mathlib.Core.Path.{sym, ap}
 use Rattle.number.specs.Says.{drawnSays}
-use Rattle.reading.proofs.Parts.{positive-zero, positive-found}
+use Rattle.entries.proofs.Parts.{positive-zero, positive-found}
 use borrow.Author.Needs.{needs}
-use Rattle.reading.proofs.positive.Statement.{statement}
-use Rattle.reading.proofs.positive.Tie as tie
+use Rattle.entries.proofs.positive.Statement.{statement}
+use Rattle.entries.proofs.positive.Tie as tie
 
 pub positive-spec : {M : Type 1} → statement M
 positive-spec =

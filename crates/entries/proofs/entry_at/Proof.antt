@@ -1,4 +1,4 @@
--- `reading::entry_at` meets its contract: id, quota and number of children, and the first refusal met.
+-- `entries::entry_at` meets its contract: id, quota and number of children, and the first refusal met.
 use mathlib.Core.Path.{_≡_, sym, ap, _∙_}
 use mathlib.Core.List.{List}
 use Prim.Native.Nat.{ℕ}
@@ -7,10 +7,10 @@ use Rattle.number.specs.Number.{found, numberAt}
 use Rattle.number.specs.Says.{drawnSays}
 use Rattle.reader.proofs.Drawing.{first-drawn, second-drawn, third-drawn}
 use Rattle.request.specs.Reading.{positiveAt}
-use Rattle.reading.proofs.Parts.{positive-at, positive-number, entry-no-id, entry-no-quota, entry-no-children, entry-found}
+use Rattle.entries.proofs.Parts.{positive-at, positive-number, entry-no-id, entry-no-quota, entry-no-children, entry-found}
 use borrow.Author.Needs.{needs}
-use Rattle.reading.proofs.entry_at.Statement.{statement}
-use Rattle.reading.proofs.entry_at.Tie as tie
+use Rattle.entries.proofs.entry_at.Statement.{statement}
+use Rattle.entries.proofs.entry_at.Tie as tie
 
 -- the places where the three were drawn, and where id and quota are known
 abbrev drawn-at : tie.After-known-told2 → tie.After-three-at
