@@ -11,7 +11,7 @@ use Rattle.rules.proofs.Bools.{and-both}
 use Rattle.matching.specs.Matching.{Window}
 use Rattle.renewals.specs.Dating.{Decision, ended, ahead, never, isOpen, hasEnded, yetToBegin, those, greatestLast, leastFirst, notOn}
 use Rattle.renewals.proofs.Running.{greatest-least}
-use Rattle.dating.specs.inside.Run.{earlier}
+use Rattle.unbroken.specs.inside.Run.{earlier}
 use Rattle.dating.specs.inside.Tally.{overWith, comingWith, countIn, countedIn}
 use Rattle.dating.specs.declared.Tally.{Tally}
 

@@ -7,7 +7,7 @@ use lib.Dec.{eqb}
 use borrow.Author.Tests.{eq-eqb, ne-eqb, eqb-false, le-leb, lt-leb, leb-true, leb-false, not-true}
 use Rattle.rules.proofs.Cases.{by-lt, by-eq}
 use Rattle.rules.proofs.Bools.{and-both}
-use Rattle.dating.specs.inside.Run.{earlier, followsFrom, reaches}
+use Rattle.unbroken.specs.inside.Run.{earlier, followsFrom, reaches}
 
 -- the lesser of two days, where 0 is none, is one of them
 pub earlier-one : (P : ℕ → Type 0) (known day : ℕ) → (1 ≤ known → P known) → P day → P (earlier known day)

@@ -9,10 +9,10 @@ use borrow.Author.Tests.{eq-eqb, ne-eqb}
 use Rattle.rules.proofs.Cases.{by-eq}
 use Rattle.matching.specs.Matching.{Window}
 use Rattle.renewals.specs.Dating.{isOpen}
+use Rattle.unbroken.specs.inside.Run.{carry}
+use Rattle.unbroken.specs.declared.Run.{Run}
 use Rattle.dating.specs.Readings.{readings, Enough, InOrder, NoneFollows}
-use Rattle.dating.specs.inside.Run.{carry}
 use Rattle.dating.specs.inside.Tally.{runWith, countIn, countedIn, unsettled, unread, again}
-use Rattle.dating.specs.declared.run.Run.{Run}
 use Rattle.dating.specs.declared.Tally.{Tally}
 use Rattle.dating.proofs.Kept.{earlier-one, reaches-past}
 use Rattle.dating.proofs.Runs.{carry-by}

@@ -8,12 +8,9 @@ use lib.Dec.{ltb}
 use borrow.Author.Tests.{eq-eqb, ne-eqb, lt-ltb, le-ltb, le-leb, lt-leb}
 use Rattle.rules.proofs.Cases.{by-lt, by-eq}
 use Rattle.matching.specs.Matching.{Window}
-use Rattle.dating.specs.inside.Run.{run, earlier, followsFrom, withStretch, setAside, carry}
-use Rattle.dating.specs.declared.run.Run.{Run}
+use Rattle.unbroken.specs.inside.Run.{run, earlier, followsFrom, withStretch, setAside, carry}
+use Rattle.unbroken.specs.declared.Run.{Run}
 use Rattle.dating.proofs.Kept.{earlier-one, earlier-min, earlier-least}
-
-pub same-run : {a a′ b b′ c c′ d d′ : ℕ} → a ≡ a′ → b ≡ b′ → c ≡ c′ → d ≡ d′ → run a b c d ≡ run a′ b′ c′ d′
-same-run e f g h = cc
 
 -- ## By cases on what a window does
 

@@ -13,9 +13,9 @@ use Rattle.renewals.specs.Dating.{isOpen, runs}
 use Rattle.renewals.specs.Renewals.{someRuns}
 use Rattle.renewals.proofs.Days.{runs-from, runs-open}
 use Rattle.renewals.proofs.Later.{First, first-here, first-there}
-use Rattle.dating.specs.inside.Run.{earlier, carry}
+use Rattle.unbroken.specs.inside.Run.{earlier, carry}
+use Rattle.unbroken.specs.declared.Run.{Run}
 use Rattle.dating.specs.inside.Tally.{tally, runWith, openWith, countIn, countedIn}
-use Rattle.dating.specs.declared.run.Run.{Run}
 use Rattle.dating.specs.declared.Tally.{Tally}
 use Rattle.dating.proofs.Kept.{earlier-one, earlier-least}
 use Rattle.dating.proofs.Runs.{Settled, Closed, Fair, carry-fair, carry-settled}

@@ -1,18 +1,16 @@
 // What windows say on a day (RULES.md, 10): they are counted in one after another, again as long as the
 // tally is unsettled, and then the tally is read. A function of the windows alone.
-mod run;
-
 ghost use mathlib.Core.Path.{_≡_};
 ghost use Prim.Native.Nat.{_-_};
 ghost use Rattle.rules.specs.Answers.{answer};
 ghost use Rattle.dating.specs.Says.{decidedSays};
 ghost use Rattle.dating.specs.inside.Tally.{runWith, openWith, overWith, comingWith, countIn, endless, unsettled, unread, again, decisionOf};
 use rules::Refusal;
-use run::Run;
-use run::carry;
-use run::greater;
-use run::lesser;
-use run::reaches;
+use unbroken::Run;
+use unbroken::carry;
+use unbroken::greater;
+use unbroken::lesser;
+use unbroken::reaches;
 
 // What is decided on a feature.
 pub enum Decided {

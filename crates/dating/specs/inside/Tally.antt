@@ -5,8 +5,8 @@ use mathlib.Core.List.{List, [], _∷_}
 use lib.Dec.{leb, ltb}
 use Rattle.matching.specs.Matching.{Window}
 use Rattle.renewals.specs.Dating.{isOpen, Decision, onOpen, onUntil, ended, ahead, never}
-use Rattle.dating.specs.inside.Run.{run, earlier, reaches, carry}
-use Rattle.dating.specs.declared.run.Run.{Run}
+use Rattle.unbroken.specs.inside.Run.{run, earlier, reaches, carry}
+use Rattle.unbroken.specs.declared.Run.{Run}
 use Rattle.dating.specs.declared.Tally.{Tally}
 
 abbrev pub tally : Run → (open-from over coming : ℕ) → Tally

@@ -1,9 +1,9 @@
--- `dating::run::reaches` meets its contract.
+-- `unbroken::reaches` meets its contract.
 use borrow.Author.Needs.{needs}
 use borrow.Author.Tests.{eq-eqb, ne-eqb}
-use Rattle.dating.specs.inside.Run.{reaches}
-use Rattle.dating.proofs.run.reaches.Statement.{statement}
-use Rattle.dating.proofs.run.reaches.Tie as tie
+use Rattle.unbroken.specs.inside.Run.{reaches}
+use Rattle.unbroken.proofs.reaches.Statement.{statement}
+use Rattle.unbroken.proofs.reaches.Tie as tie
 
 pub reaches-spec : {M : Type 1} → statement M
 unfolding reaches

@@ -1,10 +1,10 @@
 -- How closed windows carry the unbroken run of days that begins with today, one after another: `carry-fair` and `carry-settled` of
--- proofs/Runs.antt say what is known of it.
+-- dating (proofs/Runs.antt) say what is known of it.
 use Prim.Native.Nat.{ℕ, _+_, min, max}
 use mathlib.Core.Bool.{Bool, cond, not, _&&_}
 use lib.Dec.{eqb, leb, ltb}
 use Rattle.matching.specs.Matching.{Window}
-use Rattle.dating.specs.declared.run.Run.{Run}
+use Rattle.unbroken.specs.declared.Run.{Run}
 
 abbrev pub run : (until from to left : ℕ) → Run
 run until from to left = record { until = until; from = from; to = to; left = left }

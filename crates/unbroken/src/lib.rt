@@ -1,26 +1,26 @@
 // The unbroken run of days that begins with today, as closed windows carry it, one after another and in any order (RULES.md, 10).
 ghost use mathlib.Core.Path.{_≡_};
 ghost use Prim.Native.Nat.{max};
-ghost use Rattle.dating.specs.inside.Run.{earlier, followsFrom, reaches, withStretch, setAside, carry};
+ghost use Rattle.unbroken.specs.inside.Run.{earlier, followsFrom, reaches, withStretch, setAside, carry};
 
 pub struct Run {
     // Its last day as far as it is known; the day before today while none is.
-    pub(crate) until: u32,
+    pub until: u32,
     // A stretch of days further on, each of which is covered: its first day and its last. The last is 0 where there is none.
-    pub(crate) from: u32,
-    pub(crate) to: u32,
+    pub from: u32,
+    pub to: u32,
     // The least first day of the windows that were left out: 0 for none.
-    pub(crate) left: u32,
+    pub left: u32,
 }
 
-pub(crate) fn greater(a: u32, b: u32) -> u32
+pub fn greater(a: u32, b: u32) -> u32
     ensures { λ t. ⌜ t ≡ max a b ⌝ }
 {
     if a < b { b } else { a }
 }
 
 // The lesser of two days, where 0 is none yet.
-pub(crate) fn lesser(known: u32, day: u32) -> u32
+pub fn lesser(known: u32, day: u32) -> u32
     ensures { λ t. ⌜ t ≡ earlier known day ⌝ }
 {
     if known == 0 {
@@ -40,7 +40,7 @@ fn follows_from(until: u32, day: u32) -> bool
 }
 
 // A day that is kept follows on, where 0 is none.
-pub(crate) fn reaches(until: u32, day: u32) -> bool
+pub fn reaches(until: u32, day: u32) -> bool
     ensures { λ t. ⌜ t ≡ reaches until day ⌝ }
 {
     if day == 0 {
@@ -102,7 +102,7 @@ fn set_aside(r: Run, first: u32, last: u32) -> Run
 }
 
 // A closed window carries the run where it follows on, and is set aside where it does not.
-pub(crate) fn carry(r: Run, first: u32, last: u32) -> Run
+pub fn carry(r: Run, first: u32, last: u32) -> Run
     ensures { λ s. ⌜ s ≡ carry r (record { first = first; last = last }) ⌝ }
 {
     if follows_from(r.until, first) {

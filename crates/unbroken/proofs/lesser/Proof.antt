@@ -1,9 +1,9 @@
--- `dating::run::lesser` meets its contract.
+-- `unbroken::lesser` meets its contract.
 use native.Mathlib.Omega.{arith}
 use borrow.Author.Tests.{eq-eqb, ne-eqb}
-use Rattle.dating.specs.inside.Run.{earlier}
-use Rattle.dating.proofs.run.lesser.Statement.{statement}
-use Rattle.dating.proofs.run.lesser.Tie as tie
+use Rattle.unbroken.specs.inside.Run.{earlier}
+use Rattle.unbroken.proofs.lesser.Statement.{statement}
+use Rattle.unbroken.proofs.lesser.Tie as tie
 
 pub lesser-spec : {M : Type 1} → statement M
 unfolding earlier

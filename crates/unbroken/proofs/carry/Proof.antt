@@ -1,9 +1,9 @@
--- `dating::run::carry` meets its contract.
+-- `unbroken::carry` meets its contract.
 use mathlib.Core.Path.{sym, _∙_}
 use borrow.Author.Needs.{needs}
-use Rattle.dating.specs.inside.Run.{carry}
-use Rattle.dating.proofs.run.carry.Statement.{statement}
-use Rattle.dating.proofs.run.carry.Tie as tie
+use Rattle.unbroken.specs.inside.Run.{carry}
+use Rattle.unbroken.proofs.carry.Statement.{statement}
+use Rattle.unbroken.proofs.carry.Tie as tie
 
 pub carry-spec : {M : Type 1} → statement M
 unfolding carry

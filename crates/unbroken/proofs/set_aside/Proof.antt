@@ -1,11 +1,11 @@
--- `dating::run::set_aside` meets its contract.
+-- `unbroken::set_aside` meets its contract.
 use mathlib.Core.Path.{refl}
 use borrow.Author.Needs.{needs}
 use borrow.Author.Tests.{eq-eqb, ne-eqb, lt-ltb, le-ltb}
-use Rattle.dating.specs.inside.Run.{setAside}
-use Rattle.dating.proofs.Runs.{same-run}
-use Rattle.dating.proofs.run.set_aside.Statement.{statement}
-use Rattle.dating.proofs.run.set_aside.Tie as tie
+use Rattle.unbroken.specs.inside.Run.{setAside}
+use Rattle.unbroken.proofs.Same.{same-run}
+use Rattle.unbroken.proofs.set_aside.Statement.{statement}
+use Rattle.unbroken.proofs.set_aside.Tie as tie
 
 pub set-aside-spec : {M : Type 1} → statement M
 unfolding setAside

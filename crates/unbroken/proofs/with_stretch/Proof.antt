@@ -1,10 +1,10 @@
--- `dating::run::with_stretch` meets its contract.
+-- `unbroken::with_stretch` meets its contract.
 use mathlib.Core.Path.{refl, sym, _∙_}
 use borrow.Author.Needs.{needs}
-use Rattle.dating.specs.inside.Run.{withStretch}
-use Rattle.dating.proofs.Runs.{same-run}
-use Rattle.dating.proofs.run.with_stretch.Statement.{statement}
-use Rattle.dating.proofs.run.with_stretch.Tie as tie
+use Rattle.unbroken.specs.inside.Run.{withStretch}
+use Rattle.unbroken.proofs.Same.{same-run}
+use Rattle.unbroken.proofs.with_stretch.Statement.{statement}
+use Rattle.unbroken.proofs.with_stretch.Tie as tie
 
 pub with-stretch-spec : {M : Type 1} → statement M
 unfolding withStretch
