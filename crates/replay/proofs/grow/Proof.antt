@@ -111,9 +111,17 @@ grow-spec =
     write-answer-requires-2
     (λ c. search needs)
     carry-out-requires
-    (λ c. search needs)
+    (λ c. let w : tie.After-write-answer = search in w .write-answer .kept .0)
     returns-2
-    (λ c. search needs) (λ c. search needs) (λ c. search needs) (λ c. search needs) (λ c. search needs)
+    (λ c. let f : tie.After-fresh = search in f .fresh .kept .0)
+    (λ c. let f : tie.After-fresh = search in f .fresh .kept .1 .0)
+    (λ c. let f : tie.After-fresh = search in f .fresh .kept .1 .1 .0)
+    (λ c. let f : tie.After-fresh = search in f .fresh .kept .1 .1 .1 .0)
+    (λ c. let w : tie.After-write-answer2 = search in w .write-answer2 .kept .0)
     returns-3
-    (λ c. search needs) (λ c. search needs) (λ c. search needs) (λ c. search needs) (λ c. search needs)
+    (λ c. let k : tie.After-carry-out = search in k .carry-out .kept .1 .1 .0 ∙ made (told k) .fresh .kept .0)
+    (λ c. let k : tie.After-carry-out = search in k .carry-out .kept .1 .1 .1 .0 ∙ made (told k) .fresh .kept .1 .0)
+    (λ c. let k : tie.After-carry-out = search in k .carry-out .kept .1 .1 .1 .1 .0 ∙ made (told k) .fresh .kept .1 .1 .0)
+    (λ c. let k : tie.After-carry-out = search in k .carry-out .kept .1 .1 .1 .1 .1 .0 ∙ made (told k) .fresh .kept .1 .1 .1 .0)
+    (λ c. let k : tie.After-carry-out = search in k .carry-out .kept .1 .1 .1 .1 .1 .1 .0)
     returns-4)
