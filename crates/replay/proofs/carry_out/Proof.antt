@@ -40,10 +40,10 @@ carried-on c =
     let t : tie.In-loop Inv-loop μ-loop = search in
     let i = t .before .loop .inv in
     let e = sym (m .before .before .part-at .ensures) ∙ ap partSays (m .start .given .1) in (
-      omega arith,
-      omega arith,
-      omega arith,
-      omega arith,
+      f .refine .kept .0 ∙ i .0,
+      f .refine .kept .1 .0 ∙ i .1,
+      f .refine .kept .1 .1 .0 ∙ i .2,
+      f .refine .kept .1 .1 .1 .0 ∙ i .3,
       going-on (i .4) _ (t .loop-test .taken) e _ (f .refine .ensures .0) (f .refine .ensures .1) (c .count-after .ensures) (w .write-answer2 .ensures .0) (w .write-answer2 .ensures .1),
     )
 
@@ -59,9 +59,9 @@ carry-out-spec =
     (λ c. omega arith)
     stopped
     (λ c. search needs)
-    (λ c. let m : tie.After-start Inv-loop μ-loop = search in omega (arith, part-in _ _ _ (sym (m .before .before .part-at .ensures) ∙ ap partSays (m .start .given .1))))
-    (λ c. let m : tie.After-start Inv-loop μ-loop = search in omega (arith, part-in _ _ _ (sym (m .before .before .part-at .ensures) ∙ ap partSays (m .start .given .1))))
-    (λ c. let m : tie.After-start Inv-loop μ-loop = search in omega (arith, part-in _ _ _ (sym (m .before .before .part-at .ensures) ∙ ap partSays (m .start .given .1))))
+    (λ c. let m : tie.After-start Inv-loop μ-loop = search in part-in _ _ _ (sym (m .before .before .part-at .ensures) ∙ ap partSays (m .start .given .1)) .1)
+    (λ c. let m : tie.After-start Inv-loop μ-loop = search in part-in _ _ _ (sym (m .before .before .part-at .ensures) ∙ ap partSays (m .start .given .1)) .1)
+    (λ c. let m : tie.After-start Inv-loop μ-loop = search in part-in _ _ _ (sym (m .before .before .part-at .ensures) ∙ ap partSays (m .start .given .1)) .2)
     (λ c κs. search needs)
     (λ c κs.
     let t : tie.In-loop Inv-loop μ-loop = search in
@@ -79,7 +79,10 @@ carry-out-spec =
     let s : tie.Start Inv-loop μ-loop = search in
     let ok = s .good in
     omega (arith, going-same (t .loop .inv .4), table-fits (t .loop .inv .4) _ (w .write-table .ensures .0)))
-    (λ c. search needs) (λ c. search needs) (λ c. search needs) (λ c. search needs)
+    (λ c. let t : tie.At-loop Inv-loop μ-loop = search in t .loop .inv .0)
+    (λ c. let t : tie.At-loop Inv-loop μ-loop = search in t .loop .inv .1)
+    (λ c. let t : tie.At-loop Inv-loop μ-loop = search in t .loop .inv .2)
+    (λ c. let t : tie.At-loop Inv-loop μ-loop = search in t .loop .inv .3)
     (λ c. let t : tie.At-loop Inv-loop μ-loop = search in omega (arith, going-same (t .loop .inv .4)))
     (λ c.
     let t : tie.After-loop Inv-loop μ-loop = search in
