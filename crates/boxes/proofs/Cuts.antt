@@ -6,8 +6,8 @@ use native.Mathlib.Omega.{arith}
 use lib.Dec.{ltb}
 use borrow.Author.Tests.{lt-ltb, le-ltb, ltb-false}
 use Rattle.rules.proofs.Bools.{or-none}
-use Rattle.ranges.specs.Ranges.{past, onward}
-use Rattle.ranges.proofs.Ranges.{not-past, reached}
+use Rattle.coordinates.specs.Coordinates.{past, onward}
+use Rattle.coordinates.proofs.Ranges.{not-past, reached}
 use Rattle.boxes.specs.Boxes.{boxOf, nextChild, cornerOf, innerOf, cornerCut}
 use Rattle.boxes.specs.declared.Box.{Box}
 use Rattle.boxes.specs.declared.Cut.the-variants.{Parts, None}

@@ -2,8 +2,7 @@
 use Prim.Native.Nat.{ℕ, _+_, _-_}
 use mathlib.Core.Bool.{Bool, true, false, cond, _&&_, _||_}
 use lib.Dec.{ltb}
-use Rattle.ranges.specs.Ranges.{past, within, apart}
-use Rattle.coordinates.specs.Coordinates.{lValue, rValue}
+use Rattle.coordinates.specs.Coordinates.{lValue, rValue, past, within, apart}
 use Rattle.boxes.specs.declared.Box.{Box}
 use Rattle.boxes.specs.declared.Cut.{Cut}
 use Rattle.boxes.specs.declared.Cut.the-variants.{Parts, None}

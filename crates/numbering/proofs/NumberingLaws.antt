@@ -8,12 +8,12 @@ use native.Mathlib.Numerals.{add-one}
 use lib.ListN.{length, getD, take, drop, set, length-set, length-drop, length-append, take-append-drop}
 use lib.Seq.{take-all, take-suc-set, take-append-seam, take-append-add, length-take-le, append-snoc}
 use borrow.Author.Tests.{lt-ltb, le-ltb}
-use Rattle.ranges.specs.Ranges.{columnWith}
+use Rattle.coordinates.specs.Coordinates.{columnWith}
 use Rattle.boxes.specs.Boxes.{boxOf, nextChild, cornerOf, innerOf, cornerCut}
 use Rattle.boxes.specs.declared.Box.{Box}
 use Rattle.boxes.specs.declared.Cut.{Cut}
 use Rattle.boxes.specs.declared.Cut.the-variants.{Parts, None}
-use Rattle.ranges.proofs.Ranges.{writes}
+use Rattle.coordinates.proofs.Ranges.{writes}
 use Rattle.boxes.proofs.Cuts.{parts, corner-parts}
 use Rattle.request.specs.Entries.{Entry, entry, quota}
 use Rattle.request.specs.Forest.{Forest, none, tree}

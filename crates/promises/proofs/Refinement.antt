@@ -9,7 +9,7 @@ use lib.ListN.{length}
 use borrow.Author.Tests.{le-leb}
 use Rattle.rules.specs.Answers.{answer}
 use Rattle.rules.proofs.Answers.{same-answer, then-answer}
-use Rattle.ranges.specs.Ranges.{within}
+use Rattle.coordinates.specs.Coordinates.{within}
 use Rattle.boxes.specs.Boxes.{boxOf, contains, disjoint}
 use Rattle.request.specs.Entries.{times, quotaOf, before, Positive}
 use Rattle.request.specs.Forest.{Forest, Direction, preL, left, right, treeOrder}
@@ -17,7 +17,7 @@ use Rattle.request.specs.Request.{Request, entries, leftOf, rightOf}
 use Rattle.request.specs.Reading.{requestOf}
 use Rattle.request.specs.Acceptance.{accepted}
 use Rattle.rules.proofs.Ranges.{Clear}
-use Rattle.ranges.proofs.Ranges.{clear-apart}
+use Rattle.coordinates.proofs.Ranges.{clear-apart}
 use Rattle.request.proofs.Sums.{noLater, later-iff, sum-at, own-quotas}
 use Rattle.request.proofs.Trees
 use Rattle.request.proofs.ReadLaws.{request-read}

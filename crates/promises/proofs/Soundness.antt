@@ -7,9 +7,9 @@ use Prim.Native.Nat.{ℕ, _-_, _≤_}
 use borrow.Author.Tests.{not-false}
 use Rattle.rules.specs.Answers.{answer}
 use Rattle.rules.proofs.Bools.{or-none}
-use Rattle.ranges.specs.Ranges.{apart}
+use Rattle.coordinates.specs.Coordinates.{apart}
 use Rattle.rules.proofs.Ranges.{Clear}
-use Rattle.ranges.proofs.Ranges.{apart-clear, clear-apart}
+use Rattle.coordinates.proofs.Ranges.{apart-clear, clear-apart}
 use Rattle.request.specs.Entries.{times, Distinct}
 use Rattle.table.specs.Columns.{Row, lowL, lowR, sizeOf}
 use Rattle.table.specs.Check.{valueBad, rangesMeet, soundRows}

@@ -2,7 +2,7 @@
 use mathlib.Core.Path.{_≡_, refl}
 use mathlib.Core.List.{map, flatMap}
 use Rattle.number.specs.Number.{numberAt, bitGroupsAt, lastByte, followed, addedTo, bytesOf, bitGroupsOf}
-use Rattle.ranges.specs.Ranges.{apart}
+use Rattle.coordinates.specs.Coordinates.{apart}
 use Rattle.table.specs.Columns.{rowsFrom, put}
 use Rattle.table.specs.Check.{someRow, somePair, lengthsBad, countBad, valueBad, sameId, rangesMeet, soundRows, checked}
 use Rattle.fresh.specs.Fresh.{freshRows}

@@ -7,7 +7,7 @@ use native.Mathlib.Omega.{arith}
 use lib.ListN.{getD}
 use borrow.Author.Count.{below-more}
 use Rattle.rules.proofs.Cases.{by-lt}
-use Rattle.ranges.proofs.Ranges.{clear-apart}
+use Rattle.coordinates.proofs.Ranges.{clear-apart}
 use Rattle.separate.specs.inside.Certificate.{startAt, pastAt, InOrderTo, InOrder, AllApart}
 use Rattle.separate.proofs.Pigeonhole.{every-met}
 

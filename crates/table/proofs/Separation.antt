@@ -7,7 +7,7 @@ use native.Mathlib.Omega.{arith}
 use lib.Dec.{eqb}
 use lib.ListN.{length, getD, take, drop}
 use lib.Seq.{drop-cons}
-use Rattle.ranges.specs.Ranges.{apart}
+use Rattle.coordinates.specs.Coordinates.{apart}
 use Rattle.boxes.specs.Boxes.{boxOf, disjoint}
 use Rattle.boxes.specs.declared.Box.{Box}
 use Rattle.distinct.specs.Distinct.{noneIs, allDiffer}

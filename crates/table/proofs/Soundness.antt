@@ -12,8 +12,8 @@ use Rattle.rules.specs.Answers.{Answer, answer, refused}
 use Rattle.rules.specs.Limits.{greatest}
 use Rattle.rules.proofs.Bools.{or-none, not-none}
 use Rattle.rules.proofs.Cases.{by-lt}
-use Rattle.ranges.specs.Ranges.{apart}
-use Rattle.ranges.proofs.Ranges.{apart-clear, clear-apart}
+use Rattle.coordinates.specs.Coordinates.{apart}
+use Rattle.coordinates.proofs.Ranges.{apart-clear, clear-apart}
 use Rattle.table.specs.Columns.{Row, lowL, sizeOf, Columns, rowAt, rows}
 use Rattle.table.specs.Check.{someRow, somePair, lengthsBad, valueBad, sameId, rangesMeet, checked}
 use Rattle.table.specs.Sound.{In, SoundRow, Apart, Lengths, Sound}

@@ -6,7 +6,7 @@ use lib.Dec.{eqb, ltb}
 use lib.ListN.{length}
 use Rattle.rules.specs.Answers.{Answer, answer, refused}
 use Rattle.rules.specs.Limits.{greatest, mostRows}
-use Rattle.ranges.specs.Ranges.{apart}
+use Rattle.coordinates.specs.Coordinates.{apart}
 use Rattle.table.specs.Columns.{Row, lowL, lowR, sizeOf, Columns, rows}
 
 -- the test holds of some row; of some row and one below it

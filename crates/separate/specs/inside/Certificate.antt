@@ -4,7 +4,7 @@ use mathlib.Core.Path.{_≡_}
 use mathlib.Core.Bool.{true}
 use mathlib.Core.List.{List}
 use lib.ListN.{getD}
-use Rattle.ranges.specs.Ranges.{apart}
+use Rattle.coordinates.specs.Coordinates.{apart}
 
 -- the k-th range of the order: its start, and one past its end
 abbrev pub startAt : List ℕ → List ℕ → ℕ → ℕ

@@ -1,6 +1,6 @@
 -- `boxes::Box::next_child` meets its contract.
 use Prim.Native.Nat.{_+_, _-_, _≤_}
-use Rattle.ranges.proofs.Ranges.{not-past}
+use Rattle.coordinates.proofs.Ranges.{not-past}
 use Rattle.boxes.proofs.Cuts.{too-small, too-far, next-parts}
 use borrow.Author.Needs.{needs}
 use Rattle.boxes.proofs.Box.next_child.Statement.{statement}

@@ -8,7 +8,7 @@ use lib.Dec.{eqb, leb, ltb}
 use borrow.Author.Tests.{lt-ltb, le-ltb, lt-leb, le-leb, eq-eqb, ne-eqb}
 use Rattle.rules.specs.Limits.{greatest}
 use Rattle.rules.proofs.Cases.{by-lt, by-eq}
-use Rattle.ranges.specs.Ranges.{within}
+use Rattle.coordinates.specs.Coordinates.{within}
 use Rattle.boxes.specs.Boxes.{contains, boxOf}
 use Rattle.table.specs.Columns.{Row}
 use Rattle.table.specs.Check.{valueBad}

@@ -1,11 +1,11 @@
--- `ranges::write` meets its contract.
+-- `coordinates::plain::write` meets its contract.
 use lib.Seq.{set-out}
 use borrow.Author.Tests.{le-leb, lt-leb}
 use borrow.Author.Needs.{needs}
 use Rattle.rules.specs.Limits.{greatest}
-use Rattle.ranges.specs.Ranges.{columnWith}
-use Rattle.ranges.proofs.write.Statement.{statement}
-use Rattle.ranges.proofs.write.Tie as tie
+use Rattle.coordinates.specs.Coordinates.{columnWith}
+use Rattle.coordinates.proofs.plain.write.Statement.{statement}
+use Rattle.coordinates.proofs.plain.write.Tie as tie
 
 pub write-spec : {M : Type 1} → statement M
 unfolding columnWith

@@ -13,7 +13,7 @@ use Rattle.rules.specs.Limits.{greatest}
 use Rattle.rules.proofs.Bools.{or-none}
 use Rattle.rules.proofs.Cases.{by-lt}
 use Rattle.rules.proofs.Ranges.{Clear, le-same}
-use Rattle.ranges.specs.Ranges.{columnWith, within, apart, past, onward}
+use Rattle.coordinates.specs.Coordinates.{columnWith, within, apart, past, onward}
 
 -- a coordinate is past 64 bits, with a difference in the place of the sum
 pub lt-past : (a n : ℕ) → a ≤ 18446744073709551615 → ltb (18446744073709551615 - a) n ≡ past (a + n)
