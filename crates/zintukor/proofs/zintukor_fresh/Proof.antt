@@ -12,5 +12,8 @@ zintukor-fresh-spec =
     (tie.spec
     (λ c κs. search needs)
     (λ c κs. rw (c .before .before .before .before .before .before .before .before .fresh .ensures .0) (fresh-small _ _ _))
-    (λ c. search needs) (λ c. search needs) (λ c. search needs) (λ c. search needs)
+    (λ c. let f : tie.After-fresh = search in f .fresh .kept .0)
+    (λ c. let f : tie.After-fresh = search in f .fresh .kept .1 .0)
+    (λ c. let f : tie.After-fresh = search in f .fresh .kept .1 .1 .0)
+    (λ c. let f : tie.After-fresh = search in f .fresh .kept .1 .1 .1 .0)
     (λ c. let e = c .before .before .before .before .before .before .before .before .before .fresh .ensures in (c .counted-code .ensures ∙ ap countCode (e .0), e .1)))

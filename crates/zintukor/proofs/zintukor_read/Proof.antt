@@ -12,5 +12,8 @@ zintukor-read-spec =
     (tie.spec
     (λ c κs. search needs)
     (λ c κs. rw (c .before .before .before .before .before .before .before .before .read .ensures .0) (read-small _ _))
-    (λ c. search needs) (λ c. search needs) (λ c. search needs) (λ c. search needs)
+    (λ c. let f : tie.After-read = search in f .read .kept .0)
+    (λ c. let f : tie.After-read = search in f .read .kept .1 .0)
+    (λ c. let f : tie.After-read = search in f .read .kept .1 .1 .0)
+    (λ c. let f : tie.After-read = search in f .read .kept .1 .1 .1 .0)
     (λ c. let e = c .before .before .before .before .before .before .before .before .before .read .ensures in (c .counted-code .ensures ∙ ap countCode (e .0), e .1)))

@@ -12,5 +12,8 @@ zintukor-refine-spec =
     (tie.spec
     (λ c κs. search needs)
     (λ c κs. rw (c .before .before .before .before .before .before .before .before .refine .ensures .0) (refined-small _ _ _))
-    (λ c. search needs) (λ c. search needs) (λ c. search needs) (λ c. search needs)
+    (λ c. let f : tie.After-refine = search in f .refine .kept .0)
+    (λ c. let f : tie.After-refine = search in f .refine .kept .1 .0)
+    (λ c. let f : tie.After-refine = search in f .refine .kept .1 .1 .0)
+    (λ c. let f : tie.After-refine = search in f .refine .kept .1 .1 .1 .0)
     (λ c. let e = c .before .before .before .before .before .before .before .before .before .refine .ensures in (c .counted-code .ensures ∙ ap countCode (e .0), e .1)))
