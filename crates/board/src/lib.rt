@@ -1,4 +1,6 @@
 // A grant's line on the shift board (RULES.md, 18.2), written into a lent buffer.
+#![tactic(auto)]
+
 mod fields;
 
 ghost use Rattle.std.specs.Prelude.{◌≡◌, false, ◌+◌, ◌≤◌, length};

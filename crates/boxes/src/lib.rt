@@ -1,4 +1,6 @@
 // Boxes in the l–r plane: a group's l range and r range (RULES.md, 3).
+#![tactic(auto)]
+
 ghost use Rattle.std.specs.Prelude.{◌≡◌};
 ghost use Rattle.boxes.specs.Boxes.{box_of, contains, disjoint, next_child, corner_cut};
 

@@ -1,4 +1,6 @@
 // Answers as one number: a kind and a value (RULES.md, 17).
+#![tactic(auto)]
+
 ghost use Rattle.std.specs.Prelude.{◌≡◌};
 ghost use Rattle.order.specs.Says.{ordered_says};
 ghost use Rattle.dating.specs.Says.{decided_says};

@@ -1,4 +1,6 @@
 // The date of a day as text (RULES.md, 18.1): the year by a table of first days, the month by the months' lengths.
+#![tactic(auto)]
+
 mod digits;
 mod finding;
 mod years;

@@ -1,5 +1,7 @@
 // What windows say on a day (RULES.md, 10): they are counted in one after another, again as long as the
 // tally is unsettled, and then the tally is read. A function of the windows alone.
+#![tactic(auto)]
+
 ghost use Rattle.std.specs.Prelude.{◌≡◌, ◌-◌};
 ghost use Rattle.rules.specs.Answers.{answer};
 ghost use Rattle.dating.specs.Says.{decided_says};

@@ -1,4 +1,6 @@
 // The decision on a feature for a pass (RULES.md, 10): the grants are read, matched, and their windows dated.
+#![tactic(auto)]
+
 ghost use Rattle.std.specs.Prelude.{◌≡◌};
 ghost use Rattle.decide.specs.Decision.{question_bad, decided, asked};
 ghost use Rattle.dating.specs.Says.{decided_says};

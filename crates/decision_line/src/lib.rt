@@ -1,4 +1,6 @@
 // The line that `may` prints (RULES.md, 14.2), written into a lent buffer.
+#![tactic(auto)]
+
 ghost use Rattle.std.specs.Prelude.{◌≡◌};
 ghost use Rattle.rules.specs.Buffers.{written, after};
 ghost use Rattle.number.specs.Says.{written_says};

@@ -1,4 +1,6 @@
 // Whether ids differ, two by two.
+#![tactic(auto)]
+
 mod chains;
 mod pairs;
 

@@ -1,4 +1,6 @@
 // An entry of a request, read (RULES.md, 5.2).
+#![tactic(auto)]
+
 ghost use Rattle.std.specs.Prelude.{◌≡◌};
 ghost use Rattle.number.specs.Says.{drawn_says};
 ghost use Rattle.request.specs.Reading.{positive_of, entry_at};

@@ -1,4 +1,6 @@
 // A fresh table (RULES.md, 4): one group that has the whole quota.
+#![tactic(auto)]
+
 ghost use Rattle.std.specs.Prelude.{◌≡◌};
 ghost use Rattle.table.specs.Columns.{counted, afterwards};
 ghost use Rattle.table.specs.Columns.{columns};

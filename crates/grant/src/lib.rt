@@ -1,4 +1,6 @@
 // Grants and how they are read (RULES.md, 9).
+#![tactic(auto)]
+
 ghost use Rattle.std.specs.Prelude.{◌≡◌};
 ghost use Rattle.grant.specs.Grant.{grant, grant_bad, checked_grant, grant_at};
 ghost use Rattle.grant.specs.Says.{grant_says};

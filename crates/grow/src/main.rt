@@ -1,5 +1,7 @@
 // Reads a log of at most 65536 bytes from standard input, carries it out on a table of 256 rows, and prints a line for each request
 // and then the table.
+#![tactic(auto)]
+
 ghost use Rattle.std.specs.Prelude.{◌≡◌, ◌≤◌, length, replicate, take};
 ghost use Rattle.io.specs.Counts.{IsPrefixLen};
 ghost use Rattle.rules.specs.Limits.{most_rows};

@@ -1,4 +1,6 @@
 // Lists the stored numbers of its input, at most 65536 bytes, a line each; `no` and the refusal at the first that is bad.
+#![tactic(auto)]
+
 use libc::{STDIN_FILENO, STDOUT_FILENO};
 use number::Drawn;
 use rules::Refusal;

@@ -1,5 +1,7 @@
 // Lists every small request of a size (RULES.md, 19). Its input is the size, as a stored number; its output the requests' bytes, each after its
 // length, as they stand in a log. Input that is no number has none.
+#![tactic(auto)]
+
 ghost use Rattle.std.specs.Prelude.{◌≡◌, ◌≤◌, length, take};
 ghost use Rattle.io.specs.Counts.{IsPrefixLen};
 ghost use Rattle.rules.specs.Lent.{new};

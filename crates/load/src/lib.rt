@@ -1,4 +1,6 @@
 // A table read in from bytes (RULES.md, 11): into work columns first, and into the caller's once 13 is known.
+#![tactic(auto)]
+
 ghost use Rattle.std.specs.Prelude.{◌≡◌, ◌≤◌, length};
 ghost use Rattle.rules.specs.Capacities.{row_capacity};
 ghost use Rattle.table.specs.Columns.{overlay, counted, afterwards};

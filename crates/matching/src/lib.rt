@@ -1,4 +1,6 @@
 // Which grants apply to a pass and a feature (RULES.md, 9), and whether the pass and the day can be asked about.
+#![tactic(auto)]
+
 ghost use Rattle.std.specs.Prelude.{◌≡◌};
 ghost use Rattle.grant.specs.Says.{grant_of};
 ghost use Rattle.matching.specs.Matching.{pass_bad, covers, applies_to};

@@ -1,4 +1,6 @@
 // Decides on a feature for a pass. Its input, at most 65536 bytes: the numbers feature, l, r and day, then a grant list.
+#![tactic(auto)]
+
 ghost use Rattle.std.specs.Prelude.{◌≡◌, ◌≤◌, length, take};
 ghost use Rattle.io.specs.Counts.{IsPrefixLen};
 ghost use Rattle.decide.specs.Decision.{asked};

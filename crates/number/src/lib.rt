@@ -1,4 +1,6 @@
 // Numbers in their stored form (RULES.md, 2).
+#![tactic(auto)]
+
 ghost use Rattle.std.specs.Prelude.{◌≡◌, false, ◌<◌, length};
 ghost use Rattle.rules.specs.Buffers.{written, after};
 ghost use Rattle.number.specs.Number.{number_at, bit_groups_at, added_to, bytes_of};

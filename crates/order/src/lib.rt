@@ -1,4 +1,6 @@
 // The order of two groups of a table (RULES.md, 8).
+#![tactic(auto)]
+
 ghost use Rattle.std.specs.Prelude.{◌≡◌, [], ◌<◌, length};
 ghost use Rattle.rules.specs.Answers.{answer};
 ghost use Rattle.table.specs.Columns.{columns, row_at};

@@ -1,5 +1,7 @@
 // A page for the shift board (RULES.md, 18): a line for each grant that applies to a pass, written into a lent buffer. The list is read
 // twice, once for its refusals and the number of lines, and once to write them; no grant is held.
+#![tactic(auto)]
+
 ghost use Rattle.std.specs.Prelude.{◌≡◌};
 ghost use Rattle.rules.specs.Buffers.{after};
 ghost use Rattle.number.specs.Says.{written_says};

@@ -1,4 +1,6 @@
 // The reader that draws numbers one after another (RULES.md, 2).
+#![tactic(auto)]
+
 ghost use Rattle.std.specs.Prelude.{◌≡◌};
 ghost use Rattle.number.specs.Number.{number_at};
 ghost use Rattle.number.specs.Says.{drawn_says};

@@ -1,4 +1,6 @@
 // Reading a request (RULES.md, 5.2): its bytes, drawn into work columns that hold its entries in their order.
+#![tactic(auto)]
+
 ghost use Rattle.std.specs.Prelude.{◌≡◌, ◌≤◌};
 ghost use Rattle.rules.specs.Limits.{most_entries};
 ghost use Rattle.request.specs.Reading.{trees_at, request_of};

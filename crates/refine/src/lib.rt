@@ -1,4 +1,6 @@
 // Refine (RULES.md, 7): a group is exploded into the entries of a request.
+#![tactic(auto)]
+
 mod placing;
 mod refining;
 

@@ -1,4 +1,6 @@
 // Carrying a log out (RULES.md, 14.1): the fresh table, the requests one after another, and the text that is printed.
+#![tactic(auto)]
+
 ghost use Rattle.std.specs.Prelude.{◌≡◌, false, ◌+◌, ◌*◌, ◌-◌, ◌≤◌, length};
 ghost use Rattle.rules.specs.Answers.{or_else};
 ghost use Rattle.rules.specs.Buffers.{after};

@@ -1,4 +1,6 @@
 // A log's reading (RULES.md, 14.1): its fresh pair, where each request stands, and the room that its text asks for.
+#![tactic(auto)]
+
 mod room;
 
 ghost use Rattle.std.specs.Prelude.{◌≡◌};

@@ -1,4 +1,6 @@
 // What every layer shares: the limits (RULES.md, 1), and the refusals with their numbers (RULES.md, 12).
+#![tactic(auto)]
+
 ghost use Rattle.std.specs.Prelude.{◌≡◌};
 ghost use Rattle.rules.specs.Refusals.{refusal_number};
 

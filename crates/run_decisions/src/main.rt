@@ -1,4 +1,6 @@
 // The test program for decisions: its input is a script, of which it prints each line with what the line's call answers.
+#![tactic(auto)]
+
 use dating::Decided;
 use libc::STDIN_FILENO;
 use number::Written;

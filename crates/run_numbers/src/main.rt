@@ -1,4 +1,6 @@
 // The test program for stored numbers and boxes: its input is a script, of which it prints each line with what the line's call answers.
+#![tactic(auto)]
+
 use boxes::{Box, Cut};
 use coordinates::{LValue, RValue};
 use libc::STDIN_FILENO;

@@ -1,4 +1,6 @@
 // The test program for pages: its input is a script, of which it prints each line with what the line's call answers.
+#![tactic(auto)]
+
 use dates::write_date;
 use libc::STDIN_FILENO;
 use number::Written;

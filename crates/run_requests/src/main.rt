@@ -1,4 +1,6 @@
 // The test program for requests and logs: its input is a script, of which it prints each line with what the line's call answers.
+#![tactic(auto)]
+
 use libc::STDIN_FILENO;
 use replay::Grown;
 use script::{given, item_after, start};

@@ -1,4 +1,6 @@
 // The words and numbers of a script's line, with one space between them.
+#![tactic(auto)]
+
 ghost use Rattle.std.specs.Prelude.{◌≡◌};
 ghost use Rattle.script.specs.Words.{digit_of, longer, token_with, token_at};
 ghost use Rattle.script.specs.Items.{first_item, number_of, token_numbers, item_after, given_of};

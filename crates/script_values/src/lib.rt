@@ -1,4 +1,6 @@
 // The columns and the bytes that a script's line gives.
+#![tactic(auto)]
+
 ghost use Rattle.std.specs.Prelude.{◌≡◌, ◌≤◌, length};
 ghost use Rattle.script_values.specs.Values.{narrowed, room_of, column_of, byte_put, number_put, entry_put, bytes_until, item_put, bytes_of_line};
 

@@ -1,4 +1,6 @@
 // Whether boxes are disjoint, two by two.
+#![tactic(auto)]
+
 mod certifying;
 mod pairs;
 mod sorting;

@@ -1,4 +1,6 @@
 // What the test programs print: answers, buffers and columns, as text to standard output. What only prints has nothing to say.
+#![tactic(auto)]
+
 ghost use Rattle.std.specs.Prelude.{◌≡◌, ◌≤◌, length, replicate};
 ghost use Rattle.show.specs.Shown.{used_of, between_of, rows_of};
 

@@ -1,5 +1,7 @@
 // Every small request, in order (RULES.md, 19), written into a lent buffer. No shape is stored: a request's bytes are put together in one row,
 // an entry's child count after another's, and the row is written where no entry is left.
+#![tactic(auto)]
+
 ghost use Rattle.std.specs.Prelude.{◌≡◌, ◌+◌, ◌*◌, ◌≤◌, length, take};
 ghost use Rattle.rules.specs.Buffers.{written, after};
 ghost use Rattle.number.specs.Says.{written_says};

@@ -1,4 +1,6 @@
 // A table stored as bytes (RULES.md, 11): count, then id, l, r, q of each row.
+#![tactic(auto)]
+
 ghost use Rattle.std.specs.Prelude.{◌≡◌, ◌+◌, ◌≤◌, length};
 ghost use Rattle.rules.specs.Buffers.{written, after};
 ghost use Rattle.rules.specs.Limits.{most_rows};

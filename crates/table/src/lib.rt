@@ -1,4 +1,6 @@
 // The table (RULES.md, 3): four lent columns of 32-bit numbers id, l, r, q, and a count of the rows in use.
+#![tactic(auto)]
+
 mod checking;
 mod finding;
 

@@ -1,4 +1,6 @@
 // Text in ASCII, written into a lent buffer: decimal numbers and given bytes; whether there is room.
+#![tactic(auto)]
+
 ghost use Rattle.std.specs.Prelude.{◌≡◌, ◌+◌, ltb, length};
 ghost use Rattle.rules.specs.Buffers.{written, after};
 ghost use Rattle.number.specs.Says.{written_says};

@@ -1,4 +1,6 @@
 // The unbroken run of days that begins with today, as closed windows carry it, one after another and in any order (RULES.md, 10).
+#![tactic(auto)]
+
 ghost use Rattle.std.specs.Prelude.{◌≡◌, max};
 ghost use Rattle.unbroken.specs.Inside.Run.{earlier, follows_from, reaches, with_stretch, set_aside, carry};
 
