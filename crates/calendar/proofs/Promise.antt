@@ -55,11 +55,11 @@ unfolding leap
 other_years = (refl, refl, refl)
 
 months_are : map (month_days false) twelve ≡ 31 ∷ 28 ∷ 31 ∷ 30 ∷ 31 ∷ 30 ∷ 31 ∷ 31 ∷ 30 ∷ 31 ∷ 30 ∷ 31 ∷ []
-unfolding month_days map
+unfolding month_days
 months_are = refl
 
 leap_months_are : map (month_days true) twelve ≡ 31 ∷ 29 ∷ 31 ∷ 30 ∷ 31 ∷ 30 ∷ 31 ∷ 31 ∷ 30 ∷ 31 ∷ 30 ∷ 31 ∷ []
-unfolding month_days map
+unfolding month_days
 leap_months_are = refl
 
 pub calendar : Calendar
