@@ -16,6 +16,7 @@ fn wide(x: u16) -> usize
 const SLOTS: usize = 256;
 
 // The slot of an id. The product spreads ids that follow a pattern.
+#[tactic(auto, unfolding(crate::specs::Inside::Chains::slot_of))]
 fn slot(x: u32) -> usize
     ensures { (result ≡ slot_of x) × (result < slots) }
 {
