@@ -1,4 +1,4 @@
-// The calls for a host in C or Rust (include/zintukor.h). Each answers one number: kind * 4294967296 + value (RULES.md, 17).
+// The calls for a host in C or Rust; crate zintukor_c exports them (include/zintukor.h). Each answers one number: kind * 4294967296 + value (RULES.md, 17).
 // None has a precondition, keeps state or allocates; a refused call leaves each column and buffer as it found it.
 #![tactic(auto)]
 
@@ -31,7 +31,6 @@ use small_requests::small_requests;
 use store::store;
 
 // A fresh table: row 0 is the group at (1, 1) with the quota.
-#[unsafe(no_mangle)]
 pub extern "C" fn zintukor_fresh(
     id: &mut [u32],
     l: &mut [u32],
@@ -47,7 +46,6 @@ pub extern "C" fn zintukor_fresh(
 }
 
 // Explodes a group as the request's bytes say.
-#[unsafe(no_mangle)]
 pub extern "C" fn zintukor_refine(
     id: &mut [u32],
     l: &mut [u32],
@@ -63,7 +61,6 @@ pub extern "C" fn zintukor_refine(
 }
 
 // The order of two groups.
-#[unsafe(no_mangle)]
 pub extern "C" fn zintukor_order(
     id: &[u32],
     l: &[u32],
@@ -79,7 +76,6 @@ pub extern "C" fn zintukor_order(
 }
 
 // The decision on a feature for a pass (l, r) and a day.
-#[unsafe(no_mangle)]
 pub extern "C" fn zintukor_decide(feature: u32, l: u32, r: u32, day: u32, grants: &[u8]) -> u64
     ensures { result ≡ decision_code (decided feature l r day grants.now) }
 {
@@ -88,7 +84,6 @@ pub extern "C" fn zintukor_decide(feature: u32, l: u32, r: u32, day: u32, grants
 
 // The page of a pass (l, r) on a day, for the shift board. An answer's value has 32 bits: of a buffer that is longer, as many bytes as that
 // are used.
-#[unsafe(no_mangle)]
 pub extern "C" fn zintukor_page(l: u32, r: u32, day: u32, grants: &[u8], buffer: &mut [u8]) -> u64
     ensures value { result ≡ count_code (page_answer l r day grants.now (take greatest buffer.old)) }
     ensures buffer_value { buffer.new ≡ page_buffer (page_of l r day grants.now) (take greatest buffer.old) ++ drop greatest buffer.old }
@@ -98,7 +93,6 @@ pub extern "C" fn zintukor_page(l: u32, r: u32, day: u32, grants: &[u8], buffer:
 }
 
 // Stores a table as bytes.
-#[unsafe(no_mangle)]
 pub extern "C" fn zintukor_store(
     id: &[u32],
     l: &[u32],
@@ -114,7 +108,6 @@ pub extern "C" fn zintukor_store(
 }
 
 // Reads a stored table in.
-#[unsafe(no_mangle)]
 pub extern "C" fn zintukor_read(
     id: &mut [u32],
     l: &mut [u32],
@@ -129,7 +122,6 @@ pub extern "C" fn zintukor_read(
 }
 
 // Writes every small request of a size, in order, each after its length.
-#[unsafe(no_mangle)]
 pub extern "C" fn zintukor_small_requests(size: u32, buffer: &mut [u8]) -> u64
     ensures value { result ≡ count_code (written buffer.old 0 (list_bytes size)) }
     ensures buffer_value { buffer.new ≡ after buffer.old 0 (list_bytes size) }

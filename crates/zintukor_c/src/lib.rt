@@ -1,0 +1,123 @@
+// The calls of crate zintukor for a host in C or Rust (include/zintukor.h): each is exported under its name, with the same contract.
+#![tactic(auto)]
+
+ghost use Rattle.std.specs.Prelude.{◌≡◌, ◌++◌, take, drop};
+ghost use Rattle.table.specs.Columns.{counted, afterwards};
+ghost use Rattle.table.specs.Check.{checked};
+ghost use Rattle.fresh.specs.Fresh.{fresh_rows};
+ghost use Rattle.order.specs.Order.{order as table_order};
+ghost use Rattle.refine.specs.Refine.{refined};
+ghost use Rattle.rules.specs.Limits.{greatest};
+ghost use Rattle.rules.specs.Buffers.{written, after};
+ghost use Rattle.small.specs.Small.{list_bytes};
+ghost use Rattle.decide.specs.Decision.{decided};
+ghost use Rattle.page.specs.Page.{page_of, page_answer, page_buffer};
+ghost use Rattle.stored.specs.Stored.{store_answer, store_buffer, read_rows};
+ghost use Rattle.codes.specs.Codes.{count_code, order_code, decision_code};
+ghost use Rattle.table.specs.Columns.{columns};
+
+// A fresh table: row 0 is the group at (1, 1) with the quota.
+#[unsafe(no_mangle)]
+pub extern "C" fn zintukor_fresh(
+    id: &mut [u32],
+    l: &mut [u32],
+    r: &mut [u32],
+    q: &mut [u32],
+    group: u32,
+    quota: u32,
+) -> u64
+    ensures value { result ≡ count_code (counted (fresh_rows (columns id.old l.old r.old q.old) group quota)) }
+    ensures q_value { columns id.new l.new r.new q.new ≡ afterwards (fresh_rows (columns id.old l.old r.old q.old) group quota) (columns id.old l.old r.old q.old) }
+{
+    zintukor::zintukor_fresh(id, l, r, q, group, quota)
+}
+
+// Explodes a group as the request's bytes say.
+#[unsafe(no_mangle)]
+pub extern "C" fn zintukor_refine(
+    id: &mut [u32],
+    l: &mut [u32],
+    r: &mut [u32],
+    q: &mut [u32],
+    count: usize,
+    request: &[u8],
+) -> u64
+    ensures value { result ≡ count_code (counted (refined (columns id.old l.old r.old q.old) count request.now)) }
+    ensures q_value { columns id.new l.new r.new q.new ≡ afterwards (refined (columns id.old l.old r.old q.old) count request.now) (columns id.old l.old r.old q.old) }
+{
+    zintukor::zintukor_refine(id, l, r, q, count, request)
+}
+
+// The order of two groups.
+#[unsafe(no_mangle)]
+pub extern "C" fn zintukor_order(
+    id: &[u32],
+    l: &[u32],
+    r: &[u32],
+    q: &[u32],
+    count: usize,
+    first: u32,
+    second: u32,
+) -> u64
+    ensures { result ≡ order_code (table_order (columns id.now l.now r.now q.now) count first second) }
+{
+    zintukor::zintukor_order(id, l, r, q, count, first, second)
+}
+
+// The decision on a feature for a pass (l, r) and a day.
+#[unsafe(no_mangle)]
+pub extern "C" fn zintukor_decide(feature: u32, l: u32, r: u32, day: u32, grants: &[u8]) -> u64
+    ensures { result ≡ decision_code (decided feature l r day grants.now) }
+{
+    zintukor::zintukor_decide(feature, l, r, day, grants)
+}
+
+// The page of a pass (l, r) on a day, for the shift board. An answer's value has 32 bits: of a buffer that is longer, as many bytes as that
+// are used.
+#[unsafe(no_mangle)]
+pub extern "C" fn zintukor_page(l: u32, r: u32, day: u32, grants: &[u8], buffer: &mut [u8]) -> u64
+    ensures value { result ≡ count_code (page_answer l r day grants.now (take greatest buffer.old)) }
+    ensures buffer_value { buffer.new ≡ page_buffer (page_of l r day grants.now) (take greatest buffer.old) ++ drop greatest buffer.old }
+{
+    zintukor::zintukor_page(l, r, day, grants, buffer)
+}
+
+// Stores a table as bytes.
+#[unsafe(no_mangle)]
+pub extern "C" fn zintukor_store(
+    id: &[u32],
+    l: &[u32],
+    r: &[u32],
+    q: &[u32],
+    count: usize,
+    buffer: &mut [u8],
+) -> u64
+    ensures value { result ≡ count_code (store_answer (columns id.now l.now r.now q.now) count buffer.old) }
+    ensures buffer_value { buffer.new ≡ store_buffer (checked (columns id.now l.now r.now q.now) count) buffer.old }
+{
+    zintukor::zintukor_store(id, l, r, q, count, buffer)
+}
+
+// Reads a stored table in.
+#[unsafe(no_mangle)]
+pub extern "C" fn zintukor_read(
+    id: &mut [u32],
+    l: &mut [u32],
+    r: &mut [u32],
+    q: &mut [u32],
+    bytes: &[u8],
+) -> u64
+    ensures value { result ≡ count_code (counted (read_rows (columns id.old l.old r.old q.old) bytes.now)) }
+    ensures q_value { columns id.new l.new r.new q.new ≡ afterwards (read_rows (columns id.old l.old r.old q.old) bytes.now) (columns id.old l.old r.old q.old) }
+{
+    zintukor::zintukor_read(id, l, r, q, bytes)
+}
+
+// Writes every small request of a size, in order, each after its length.
+#[unsafe(no_mangle)]
+pub extern "C" fn zintukor_small_requests(size: u32, buffer: &mut [u8]) -> u64
+    ensures value { result ≡ count_code (written buffer.old 0 (list_bytes size)) }
+    ensures buffer_value { buffer.new ≡ after buffer.old 0 (list_bytes size) }
+{
+    zintukor::zintukor_small_requests(size, buffer)
+}
