@@ -5,7 +5,7 @@ ghost use Rattle.coordinates.specs.Coordinates.{l_value, within, apart, at_most,
 use crate::plain::{apart, onward, passes, within, write};
 
 // An l-value. 64 bits: a box may end at 4294967295, and what is left of it then begins one past that.
-#[derive(Drop)]
+#[derive(Clone, Copy)]
 pub struct LValue(u64);
 
 impl LValue {

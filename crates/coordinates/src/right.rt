@@ -5,7 +5,7 @@ ghost use Rattle.coordinates.specs.Coordinates.{r_value, within, apart, at_most,
 use crate::plain::{apart, onward, passes, within, write};
 
 // An r-value.
-#[derive(Drop)]
+#[derive(Clone, Copy)]
 pub struct RValue(u64);
 
 impl RValue {
