@@ -7,7 +7,7 @@ ghost use Rattle.boxes.specs.Boxes.{box_of, contains, disjoint, next_child, corn
 use coordinates::{LValue, RValue};
 
 // A group's box: the l range from l to l + quota - 1, and the r range from r to r + quota - 1.
-#[derive(Drop)]
+#[derive(Clone, Copy)]
 pub struct Box {
     pub l: LValue,
     pub r: RValue,
@@ -15,7 +15,7 @@ pub struct Box {
 }
 
 // A box with a part cut off it.
-#[derive(Drop)]
+#[derive(Clone, Copy)]
 pub enum Cut {
     // The part, and what is left.
     Parts(Box, Box),
