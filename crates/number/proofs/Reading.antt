@@ -46,15 +46,15 @@ pub record Later (bytes : List ℕ) (at low i unit sum : ℕ) : Type 0 where
 -- a group after which one more may come
 record Inner (more unit : ℕ) : Type 0 where
   rest : ℕ
-  one_more_lem : more ≡ suc rest
+  one_more : more ≡ suc rest
   counts : unit * 128 ≡ unit_of rest
   low : unit ≤ 2097152
 
 inner : (more unit : ℕ) → more ≤ 3 → unit ≡ unit_of more → unit < 268435456 → Inner more unit
 inner zero unit m e h = absurd (omega arith)
-inner (suc zero) unit m e h = record { rest = 0; one_more_lem = refl; counts = omega arith; low = omega arith }
-inner (suc (suc zero)) unit m e h = record { rest = 1; one_more_lem = refl; counts = omega arith; low = omega arith }
-inner (suc (suc (suc zero))) unit m e h = record { rest = 2; one_more_lem = refl; counts = omega arith; low = omega arith }
+inner (suc zero) unit m e h = record { rest = 0; one_more = refl; counts = omega arith; low = omega arith }
+inner (suc (suc zero)) unit m e h = record { rest = 1; one_more = refl; counts = omega arith; low = omega arith }
+inner (suc (suc (suc zero))) unit m e h = record { rest = 2; one_more = refl; counts = omega arith; low = omega arith }
 inner (suc (suc (suc (suc k)))) unit m e h = absurd (omega arith)
 
 outer : (more unit : ℕ) → more ≤ 3 → unit ≡ unit_of more → 268435456 ≤ unit → more ≡ 0

@@ -28,11 +28,10 @@ run_back [] before after f = omega arith
 run_back (v ∷ vs) before after f =
     let rest = flat_map bytes_of vs in
     let whole : before ++ ((bytes_of v ++ rest) ++ after) ≡ (before ++ bytes_of v) ++ (rest ++ after) = simp append_assoc in
-    let n : length before + length (bytes_of v ++ rest) ≡ length (before ++ bytes_of v) + length rest = simp length-append (omega arith) in (
-      length (before ++ bytes_of v),
-      rw append_assoc (rw length-append (number_back v before (rest ++ after) f.0)),
-      rw (whole, n) (run_back vs (before ++ bytes_of v) after f.1),
-    )
+    let n : length before + length (bytes_of v ++ rest) ≡ length (before ++ bytes_of v) + length rest = simp length-append (omega arith) in
+    let later : Run (before ++ ((bytes_of v ++ rest) ++ after)) (length (before ++ bytes_of v)) vs (length before + length (bytes_of v ++ rest)) =
+    rw (whole, n) (run_back vs (before ++ bytes_of v) after f.1) in
+    (length (before ++ bytes_of v), rw append_assoc (rw length-append (number_back v before (rest ++ after) f.0)), later)
 
 -- ## Read, then written
 
