@@ -1,4 +1,4 @@
-//! Links the engine: `libzintukor.a`, made by `rt staticlib zintukor` in the repository's root.
+//! Links the engine: `libzintukor.a`, made by `sh tools/library` in the repository's root.
 
 use std::path::{Path, PathBuf};
 use std::{env, process};
@@ -15,7 +15,7 @@ fn main() {
     println!("cargo:rerun-if-changed={}", library.display());
     if !library.is_file() {
         eprintln!("The engine's library is not there: {}", library.display());
-        eprintln!("Run `rt staticlib zintukor` in the repository's root,");
+        eprintln!("Run `sh tools/library` in the repository's root,");
         eprintln!("or name the folder of libzintukor.a in ZINTUKOR_LIB (an absolute path).");
         process::exit(1);
     }
