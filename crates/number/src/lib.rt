@@ -9,7 +9,7 @@ ghost use Rattle.number.specs.Says.{drawn_says, written_says};
 use rules::Refusal;
 
 // What stands at a position of some bytes.
-#[derive(Drop)]
+#[derive(Clone, Copy)]
 pub enum Drawn {
     // A number's value, and the position after its last byte.
     Number(u32, usize),
@@ -17,7 +17,7 @@ pub enum Drawn {
 }
 
 // What became of a number written into a buffer.
-#[derive(Drop)]
+#[derive(Clone, Copy)]
 pub enum Written {
     // How many bytes it has.
     Bytes(usize),

@@ -19,7 +19,7 @@ pub const ROW_CAPACITY: usize = MOST_ROWS;
 pub const ENTRY_CAPACITY: usize = MOST_ENTRIES;
 
 // Why a call is refused: a case for each row of the table of RULES.md, 12.
-#[derive(Drop)]
+#[derive(Clone, Copy)]
 pub enum Refusal {
     // Bytes end before the number does.
     NumberCut,
