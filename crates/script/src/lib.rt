@@ -13,7 +13,7 @@ const EMPTY: u8 = 1;
 pub const END: u8 = 2;
 
 // A word, or a number: also `a-b`, the numbers from a to b, and `a*n`, n times a.
-#[derive(Drop)]
+#[derive(Clone, Copy)]
 struct Token {
     word: u8,
     // A number's value in decimal, and its last two digits as a byte in hexadecimal.
@@ -27,7 +27,7 @@ struct Token {
 }
 
 // A word, or one number of those after it.
-#[derive(Drop)]
+#[derive(Clone, Copy)]
 pub struct Item {
     pub word: u8,
     // The word before a number.
@@ -50,11 +50,11 @@ fn digit(c: u8) -> u8
     if c <= b'9' {
         return c - b'0';
     }
-    if c < b'_a' {
+    if c < b'A' {
         return 16;
     }
-    if c <= b'_f' {
-        return c - b'_a' + 10;
+    if c <= b'F' {
+        return c - b'A' + 10;
     }
     16
 }
