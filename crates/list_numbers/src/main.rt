@@ -1,38 +1,41 @@
 // Lists the stored numbers of its input, at most 65536 bytes, a line each; `no` and the refusal at the first that is bad.
 #![tactic(auto)]
 
-use libc::{STDIN_FILENO, STDOUT_FILENO};
 use number::Drawn;
 use rules::Refusal;
+use std::io;
+use std::io::{BufWriter, Read, Write};
 
-fn line(value: u32) {
-    io::print_decimal(STDOUT_FILENO, value as u64);
-    io::write_all(STDOUT_FILENO, b"\n");
+// How many bytes of input are read.
+const MOST_BYTES: u64 = 65536;
+
+fn line<W: Write>(out: &mut W, value: u32) -> io::Result<()> {
+    writeln!(out, "{value}")
 }
 
-fn refusal(why: Refusal) {
-    io::write_all(STDOUT_FILENO, b"no ");
-    line(why.number());
+fn refusal<W: Write>(out: &mut W, why: Refusal) -> io::Result<()> {
+    write!(out, "no ")?;
+    line(out, why.number())
 }
 
-fn list(bytes: &[u8]) {
+fn list<W: Write>(out: &mut W, bytes: &[u8]) -> io::Result<()> {
     let mut at = 0;
     while at < bytes.len() {
         match number::number_at(bytes, at) {
             Drawn::Number(value, next) => {
-                line(value);
+                line(out, value)?;
                 at = next;
             }
-            Drawn::Refused(why) => {
-                refusal(why);
-                return;
-            }
+            Drawn::Refused(why) => return refusal(out, why),
         }
     }
+    Ok(())
 }
 
-fn main() {
-    let mut input = io::large_buffer();
-    let n = io::read_full(STDIN_FILENO, &mut input);
-    list(&input[..n]);
+fn main(rt: HostRuntime) -> io::Result<()> {
+    let mut input = Vec::new(rt.alloc());
+    rt.stdin().take(MOST_BYTES).read_to_end(&mut input)?;
+    let mut out = BufWriter::new(rt.alloc(), io::writer(&rt))?;
+    list(&mut out, &input)?;
+    out.flush()
 }
