@@ -1,3 +1,1 @@
 pub mod Drawing
-pub mod Held
-pub mod ThreeDraws

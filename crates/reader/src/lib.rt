@@ -9,7 +9,7 @@ ghost use Rattle.reader.specs.Drawing.{next_of, three_at, three_says};
 use number::Drawn;
 
 // Three numbers that stand one after another, each as it was drawn.
-#[derive(Drop)]
+#[derive(Clone, Copy)]
 pub struct Three {
     pub first: Drawn,
     pub second: Drawn,
@@ -17,7 +17,7 @@ pub struct Three {
 }
 
 // The bytes that a reader refers to, and its place in them.
-#[derive(Drop)]
+#[derive(Clone, Copy)]
 pub struct Reader<'a> {
     pub bytes: &'a [u8],
     pub at: usize,
@@ -71,6 +71,7 @@ fn threefold(first: Drawn, second: Drawn, third: Drawn) -> Three
 }
 
 // Three numbers from a place on, drawn one after another by one reader.
+#[tactic(auto, unfolding(crate::specs::Drawing::three_at))]
 pub fn three_at(bytes: &[u8], at: usize) -> Three
     ensures { three_says result ≡ three_at bytes.now at }
 {
@@ -85,8 +86,9 @@ pub fn three_at(bytes: &[u8], at: usize) -> Three
 
 // The same, for a request's head. Each of the two has one caller and is compiled into it: one function for both would stay a call, and
 // reading a request would take nearly twice as long.
+#[tactic(auto, unfolding(crate::specs::Drawing::three_at))]
 pub fn head_at(bytes: &[u8], at: usize) -> Three
-    ensures { three_says result ≡ three_at bytes.now at }
+    ensures head { three_says result ≡ three_at bytes.now at }
 {
     let reader = Reader::new(bytes, at);
     let first = reader.draw();
