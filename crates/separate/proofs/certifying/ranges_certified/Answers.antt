@@ -1,19 +1,9 @@
 -- `separate::certifying::ranges_certified` meets its contract. Whatever the sort gives, the order was tested.
-use Rattle.std.proofs.Common.{sym, true≢false}
 use Rattle.separate.proofs.Certificate.{in_order_apart}
 use Rattle.separate.proofs.certifying.ranges_certified.Goals as goal
 
-pub returns-then-size-start : goal.returns-then-size-start
-returns-then-size-start c = λ e. absurd (true≢false (sym e))
-
-pub returns-then-start-lt-MANY_ROWS : goal.returns-then-start-lt-MANY_ROWS
-returns-then-start-lt-MANY_ROWS c = λ e. absurd (true≢false (sym e))
-
 pub returns-then-start-le-FEW_ROWS : goal.returns-then-start-le-FEW_ROWS
 returns-then-start-le-FEW_ROWS c = λ e. in_order_apart (c.ranges_in_order.ensures e)
-
-pub returns-then-start-gt-ROW_CAPACITY : goal.returns-then-start-gt-ROW_CAPACITY
-returns-then-start-gt-ROW_CAPACITY c = λ e. absurd (true≢false (sym e))
 
 pub returns : goal.returns
 returns c = λ e. in_order_apart (c.ranges_in_order-2.ensures e)
