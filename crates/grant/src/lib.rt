@@ -10,7 +10,7 @@ use number::{Drawn, number_at};
 use rules::Refusal;
 
 // A grant as it is read.
-#[derive(Drop)]
+#[derive(Clone, Copy)]
 pub struct Grant {
     pub feature: u32,
     // The group's numbers.
@@ -22,7 +22,7 @@ pub struct Grant {
 }
 
 // What stands at a position of a grant list.
-#[derive(Drop)]
+#[derive(Clone, Copy)]
 pub enum GrantDrawn {
     // A grant, and the position after it.
     Grant(Grant, usize),
