@@ -14,6 +14,7 @@ use rules::{GREATEST, MOST_ROWS, Refusal};
 use separate::boxes_separate;
 
 // 10: lengths differ or not 1 to 256.
+#[tactic(auto, unfolding(crate::specs::Check::lengths_bad))]
 pub fn lengths_bad(id: &[u32], l: &[u32], r: &[u32], q: &[u32]) -> bool
     ensures { result ≡ lengths_bad (columns id.now l.now r.now q.now) }
 {
@@ -22,6 +23,7 @@ pub fn lengths_bad(id: &[u32], l: &[u32], r: &[u32], q: &[u32]) -> bool
 }
 
 // 10: count 0 or above length.
+#[tactic(auto, unfolding(crate::specs::Check::count_bad))]
 pub fn count_bad(length: usize, count: usize) -> bool
     ensures { result ≡ count_bad length count }
 {

@@ -9,14 +9,14 @@ pub use finding::place_of;
 use rules::Refusal;
 
 // What the check of the columns finds.
-#[derive(Drop)]
+#[derive(Clone, Copy)]
 pub enum Checked {
     Sound,
     Refused(Refusal),
 }
 
 // The answer of a call that writes rows.
-#[derive(Drop)]
+#[derive(Clone, Copy)]
 pub enum Counted {
     // The new count.
     Count(usize),

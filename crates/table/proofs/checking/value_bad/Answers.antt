@@ -12,9 +12,7 @@ use Rattle.coordinates.specs.Coordinates.{within}
 use Rattle.boxes.specs.Boxes.{contains, box_of}
 use Rattle.table.specs.Columns.{Row}
 use Rattle.table.specs.Check.{value_bad}
-use borrow.Author.Rules.{rules}
-use Rattle.table.proofs.checking.value_bad.Statement.{statement}
-use Rattle.table.proofs.checking.value_bad.Tie as tie
+use Rattle.table.proofs.checking.value_bad.Goals as goal
 
 none : (n : ℕ) → leb 1 n ≡ not (eqb n 0)
 none n = by_eq n 0 (λ e. rw (eq-eqb n 0 e, lt-leb 1 n (omega arith))) (λ e. rw (ne_eqb n 0 e, le-leb 1 n (omega arith)))
@@ -46,11 +44,5 @@ value_bad_lem w =
     rw (in_plane w.l w.q, in_plane w.r w.q)
     (parts (eqb w.id 0) (eqb w.l 0) (eqb w.r 0) (eqb w.q 0) (ltb greatest (w.l + w.q - 1)) (ltb greatest (w.r + w.q - 1)))
 
-pub value_bad_spec : {M : Type 1} → statement M
-value_bad_spec =
-    tie.close
-    (tie.spec (λ c κs. search rules) (λ c κs. search rules) (λ c κs. search rules)
-    (λ c.
-    let a : tie.After-new = search in
-    let b : tie.After-new2 = search in
-    rw (c.contains.ensures ∙ ap₂ contains a.new.ensures b.new2.ensures) (value_bad_lem _)))
+pub returns : goal.returns
+returns c = rw (c.contains.ensures ∙ ap₂ contains c.new-plane.ensures c.new.ensures) (value_bad_lem _)
