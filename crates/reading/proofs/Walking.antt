@@ -40,9 +40,10 @@ close_enter w at end sum n id quota e s l = rw (set_comm w.ends n at e end (λ h
 close_filled : (w : Work) (at end sum n : ℕ) (t : Forest) → at < n → close (filled w n t) at end sum ≡ filled (close w at end sum) n t
 close_filled w at end sum n none l = refl
 close_filled w at end sum n (tree e c r) l =
-    close_filled _ at end sum (n + 1 + size c) r (omega arith)
+    let v = enter w n e.id e.quota (n + 1 + size c) (e.quota + whole c) in
+    close_filled (filled v (n + 1) c) at end sum (n + 1 + size c) r (omega arith)
     ∙ ap (λ (v : Work). filled v (n + 1 + size c) r)
-    (close_filled _ at end sum (n + 1) c (omega arith) ∙ ap (λ (v : Work). filled v (n + 1) c) (close_enter w at end sum n e.id e.quota _ _ l))
+    (close_filled v at end sum (n + 1) c (omega arith) ∙ ap (λ (v : Work). filled v (n + 1) c) (close_enter w at end sum n e.id e.quota _ _ l))
 
 -- ## The loop
 

@@ -45,11 +45,15 @@ enter_back w at id quota end sum p = record {
 
 pub filled_places : {n : ℕ} (w : Work) (at : ℕ) (t : Forest) → Places n w → Places n (filled w at t)
 filled_places w at none p = p
-filled_places w at (tree e c r) p = filled_places _ (at + 1 + size c) r (filled_places _ (at + 1) c (enter_places w at _ _ _ _ p))
+filled_places w at (tree e c r) p =
+    let v = enter w at e.id e.quota (at + 1 + size c) (e.quota + whole c) in
+    filled_places (filled v (at + 1) c) (at + 1 + size c) r (filled_places v (at + 1) c (enter_places w at _ _ _ _ p))
 
 pub filled_back : {n : ℕ} (w : Work) (at : ℕ) (t : Forest) → Places n (filled w at t) → Places n w
 filled_back w at none p = p
-filled_back w at (tree e c r) p = enter_back w at _ _ _ _ (filled_back _ (at + 1) c (filled_back _ (at + 1 + size c) r p))
+filled_back w at (tree e c r) p =
+    let v = enter w at e.id e.quota (at + 1 + size c) (e.quota + whole c) in
+    enter_back w at _ _ _ _ (filled_back v (at + 1) c (filled_back (filled v (at + 1) c) (at + 1 + size c) r p))
 
 -- two work columns agree below an index
 pub record Agree (n : ℕ) (w v : Work) : Type 0 where
@@ -77,7 +81,8 @@ enter_below w at id quota end sum = record {
 filled_below : (w : Work) (at : ℕ) (t : Forest) → Agree at w (filled w at t)
 filled_below w at none = record { at_ids = λ k i. refl; at_quotas = λ k i. refl; at_ends = λ k i. refl; at_sums = λ k i. refl }
 filled_below w at (tree e c r) =
-    agree_then (enter_below w at _ _ _ _) (agree_then (filled_below _ (at + 1) c) (filled_below _ (at + 1 + size c) r) (omega arith)) (omega arith)
+    let v = enter w at e.id e.quota (at + 1 + size c) (e.quota + whole c) in
+    agree_then (enter_below w at _ _ _ _) (agree_then (filled_below v (at + 1) c) (filled_below (filled v (at + 1) c) (at + 1 + size c) r) (omega arith)) (omega arith)
 
 entry_agree : {n : ℕ} {w v : Work} {at id quota end sum : ℕ} → Agree n w v → at < n → EntryIn w at id quota end sum → EntryIn v at id quota end sum
 entry_agree g l e = record {

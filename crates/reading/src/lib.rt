@@ -14,7 +14,7 @@ use number::Drawn;
 use rules::{ENTRY_CAPACITY, GREATEST_DEPTH, MOST_ENTRIES, Refusal};
 
 // A request as it is read; its entries stand in the work columns.
-#[derive(Drop)]
+#[derive(Clone, Copy)]
 pub enum RequestRead {
     // Exploded id, whether the direction is upright, number of entries, and all their quota.
     Request {
@@ -27,7 +27,7 @@ pub enum RequestRead {
 }
 
 // Where a walk over child counts came to.
-#[derive(Drop)]
+#[derive(Clone, Copy)]
 enum Walk {
     // The next position, the next entry, and the subtrees' quota.
     End(usize, usize, u64),
