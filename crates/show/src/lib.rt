@@ -1,12 +1,13 @@
-// What the test programs print: answers, buffers and columns, as text to standard output. What only prints has nothing to say.
+// What the test programs print: answers, buffers and columns, as text to a writer. What only prints has nothing to say.
 #![tactic(auto)]
 
 ghost use Rattle.std.specs.Prelude.{◌≡◌, ◌≤◌, length, replicate};
 ghost use Rattle.show.specs.Shown.{used_of, between_of, rows_of};
 
-use libc::STDOUT_FILENO;
 use number::Written;
 use rules::Refusal;
+use std::io;
+use std::io::Write;
 use table::Counted;
 
 // What a call answers. The first ones have a value.
@@ -50,23 +51,23 @@ pub const NONE: usize = 17;
 
 pub const NO_ROOM: usize = 18;
 
-pub fn text(t: &[u8]) {
-    io::write_all(STDOUT_FILENO, t);
+pub fn text<W: Write>(out: &mut W, t: &[u8]) -> io::Result<()> {
+    out.write_all(t)
 }
 
-pub fn byte(b: u8) {
+pub fn byte<W: Write>(out: &mut W, b: u8) -> io::Result<()> {
     let t = [b];
-    io::write_all(STDOUT_FILENO, &t);
+    out.write_all(&t)
 }
 
 // A number after a byte.
-pub fn number(b: u8, n: u64) {
-    byte(b);
-    io::print_decimal(STDOUT_FILENO, n);
+pub fn number<W: Write>(out: &mut W, b: u8, n: u64) -> io::Result<()> {
+    byte(out, b)?;
+    write!(out, "{n}")
 }
 
 // The word with so many before it.
-fn word(words: &[u8], before: usize) {
+fn word<W: Write>(out: &mut W, words: &[u8], before: usize) -> io::Result<()> {
     let mut left = before;
     let mut i = 0;
     while i < words.len() {
@@ -74,46 +75,48 @@ fn word(words: &[u8], before: usize) {
         i += 1;
         if c == b',' {
             if left == 0 {
-                return;
+                return Ok(());
             }
             left -= 1;
         } else if left == 0 {
-            byte(c);
+            byte(out, c)?;
         }
     }
+    Ok(())
 }
 
-pub fn answer(kind: usize, value: u64) {
+pub fn answer<W: Write>(out: &mut W, kind: usize, value: u64) -> io::Result<()> {
     word(
+        out,
         b": no,: count,: bytes,: number,: on,: ended,: ahead,: on open,: never,: sound,: same,: first,: second,: incomparable,: yes,: not,: parts,: none,: no room",
         kind,
-    );
+    )?;
     if kind < VALUES {
-        number(b' ', value);
+        return number(out, b' ', value);
     }
+    Ok(())
 }
 
-pub fn refused(why: Refusal) {
-    answer(REFUSED, why.number() as u64);
+pub fn refused<W: Write>(out: &mut W, why: Refusal) -> io::Result<()> {
+    answer(out, REFUSED, why.number() as u64)
 }
 
-pub fn counted(c: Counted) {
+pub fn counted<W: Write>(out: &mut W, c: Counted) -> io::Result<()> {
     match c {
-        Counted::Count(n) => answer(COUNT, n as u64),
-        Counted::Refused(why) => refused(why),
+        Counted::Count(n) => answer(out, COUNT, n as u64),
+        Counted::Refused(why) => refused(out, why),
     }
 }
 
-pub fn written(w: Written) {
+pub fn written<W: Write>(out: &mut W, w: Written) -> io::Result<()> {
     match w {
-        Written::Bytes(n) => answer(BYTES, n as u64),
-        Written::Refused(why) => refused(why),
+        Written::Bytes(n) => answer(out, BYTES, n as u64),
+        Written::Refused(why) => refused(out, why),
     }
 }
 
-fn hexadecimal(b: u8) {
-    byte(b' ');
-    io::print_hex(STDOUT_FILENO, b as u64, 2);
+fn hexadecimal<W: Write>(out: &mut W, b: u8) -> io::Result<()> {
+    write!(out, " {b:02x}")
 }
 
 // Where the EE at the end begin.
@@ -140,22 +143,23 @@ pub fn unwritten() -> [u8; 65536]
 }
 
 // So many of a buffer's bytes as text, or all in hexadecimal but the EE at its end, which are counted.
-fn buffer(s: &[u8], as_text: usize) {
+fn buffer<W: Write>(out: &mut W, s: &[u8], as_text: usize) -> io::Result<()> {
     let n = used(s);
     let mut i = as_text;
     while i < n {
-        hexadecimal(s[i]);
+        hexadecimal(out, s[i])?;
         i += 1;
     }
-    number(b'+', (s.len() - n) as u64);
+    number(out, b'+', (s.len() - n) as u64)?;
     if 0 < as_text && as_text <= s.len() {
-        byte(b'\n');
-        text(&s[0..as_text]);
+        byte(out, b'\n')?;
+        text(out, &s[0..as_text])?;
     }
+    Ok(())
 }
 
-pub fn whole(s: &[u8; 65536], as_text: usize) {
-    buffer(s, as_text);
+pub fn whole<W: Write>(out: &mut W, s: &[u8; 65536], as_text: usize) -> io::Result<()> {
+    buffer(out, s, as_text)
 }
 
 fn wide(n: u32) -> u64
@@ -177,13 +181,13 @@ fn between(before: u64, here: u64, after: u64) -> bool
 }
 
 // A number of a column, or the end of a run of which some were left out: `a-b`, or `a*n`.
-fn last(left_out: u64, before: u64, n: u64) {
+fn last<W: Write>(out: &mut W, left_out: u64, before: u64, n: u64) -> io::Result<()> {
     if left_out == 0 {
-        number(b' ', n);
+        number(out, b' ', n)
     } else if before == n {
-        number(b'*', std::num::wrapping_add_u64(left_out, 2));
+        number(out, b'*', std::num::wrapping_add_u64(left_out, 2))
     } else {
-        number(b'-', n);
+        number(out, b'-', n)
     }
 }
 
@@ -202,9 +206,9 @@ pub fn rows(n: u32) -> usize
 const FAR: u64 = 8589934592;
 
 // The numbers of a column; in a long one the ends of each run.
-fn column(name: u8, s: &[u32; 258]) {
-    byte(b' ');
-    byte(name);
+fn column<W: Write>(out: &mut W, name: u8, s: &[u32; 258]) -> io::Result<()> {
+    byte(out, b' ')?;
+    byte(out, name)?;
     let mut left_out: u64 = 0;
     let mut before: u64 = FAR;
     let n = rows(s[257]);
@@ -216,16 +220,23 @@ fn column(name: u8, s: &[u32; 258]) {
         if between(before, here, after) {
             left_out = std::num::wrapping_add_u64(left_out, 1);
         } else {
-            last(left_out, before, here);
+            last(out, left_out, before, here)?;
             left_out = 0;
         }
         before = here;
     }
+    Ok(())
 }
 
-pub fn columns(id: &[u32; 258], l: &[u32; 258], r: &[u32; 258], q: &[u32; 258]) {
-    column(b'i', id);
-    column(b'l', l);
-    column(b'r', r);
-    column(b'q', q);
+pub fn columns<W: Write>(
+    out: &mut W,
+    id: &[u32; 258],
+    l: &[u32; 258],
+    r: &[u32; 258],
+    q: &[u32; 258],
+) -> io::Result<()> {
+    column(out, b'i', id)?;
+    column(out, b'l', l)?;
+    column(out, b'r', r)?;
+    column(out, b'q', q)
 }
