@@ -3,31 +3,38 @@
 
 use boxes::{Box, Cut};
 use coordinates::{LValue, RValue};
-use libc::STDIN_FILENO;
 use number::Drawn;
 use script::{given, item_after, start};
 use script_values::{bytes, narrow, room};
 use show::answer;
+use std::io;
+use std::io::{BufWriter, Read, Write};
+
+// How many bytes of input are read.
+const MOST_BYTES: u64 = 65536;
 
 // The number at a position of some bytes: its value, and the position after it.
-fn number(bytes: &[u8], at: u64) {
+fn number<W: Write>(out: &mut W, bytes: &[u8], at: u64) -> io::Result<()> {
     match number::number_at(bytes, at as usize) {
         Drawn::Number(value, next) => {
-            answer(show::NUMBER, value as u64);
-            show::number(b' ', next as u64);
+            answer(out, show::NUMBER, value as u64)?;
+            show::number(out, b' ', next as u64)
         }
-        Drawn::Refused(why) => show::refused(why),
+        Drawn::Refused(why) => show::refused(out, why),
     }
 }
 
 // Writes a number: its value, the position, and the bytes of the buffer. Its length comes after the answer.
-fn write(line: &[u8]) {
+fn write<W: Write>(out: &mut W, line: &[u8]) -> io::Result<()> {
     let mut buffer = show::unwritten();
     let value = narrow(given(line, 0));
     let n = room(given(line, 2));
-    show::written(number::write_number(&mut buffer[0..n], given(line, 1) as usize, value));
-    show::number(b'/', number::number_length(value) as u64);
-    show::whole(&buffer, 0);
+    show::written(
+        out,
+        number::write_number(&mut buffer[0..n], given(line, 1) as usize, value),
+    )?;
+    show::number(out, b'/', number::number_length(value) as u64)?;
+    show::whole(out, &buffer, 0)
 }
 
 // l, r and the quota of a box.
@@ -39,20 +46,20 @@ fn area(line: &[u8], l: usize, r: usize, quota: usize) -> Box {
     }
 }
 
-fn flag(t: bool) {
-    answer(if t { show::YES } else { show::NOT }, 0);
+fn flag<W: Write>(out: &mut W, t: bool) -> io::Result<()> {
+    answer(out, if t { show::YES } else { show::NOT }, 0)
 }
 
-fn contains(line: &[u8]) {
-    flag(area(line, 0, 1, 2).contains(area(line, 3, 4, 5)));
+fn contains<W: Write>(out: &mut W, line: &[u8]) -> io::Result<()> {
+    flag(out, area(line, 0, 1, 2).contains(area(line, 3, 4, 5)))
 }
 
-fn disjoint(line: &[u8]) {
-    flag(area(line, 0, 1, 2).disjoint(area(line, 3, 4, 5)));
+fn disjoint<W: Write>(out: &mut W, line: &[u8]) -> io::Result<()> {
+    flag(out, area(line, 0, 1, 2).disjoint(area(line, 3, 4, 5)))
 }
 
 // l and r of a box are found by comparisons, from the highest bit down: no call answers the number of a coordinate.
-fn show_box(b: Box) {
+fn show_box<W: Write>(out: &mut W, b: Box) -> io::Result<()> {
     let mut l = 0;
     let mut r = 0;
     let mut bit: u64 = 9223372036854775808;
@@ -67,72 +74,78 @@ fn show_box(b: Box) {
         }
         bit /= 2;
     }
-    show::number(b' ', l);
-    show::number(b' ', r);
-    show::number(b' ', b.quota);
+    show::number(out, b' ', l)?;
+    show::number(out, b' ', r)?;
+    show::number(out, b' ', b.quota)
 }
 
-fn show_cut(cut: Cut) {
+fn show_cut<W: Write>(out: &mut W, cut: Cut) -> io::Result<()> {
     match cut {
         Cut::Parts(part, rest) => {
-            answer(show::PARTS, 0);
-            show_box(part);
-            show_box(rest);
+            answer(out, show::PARTS, 0)?;
+            show_box(out, part)?;
+            show_box(out, rest)
         }
-        Cut::None => answer(show::NONE, 0),
+        Cut::None => answer(out, show::NONE, 0),
     }
 }
 
 // The child, and what is left.
-fn next_child(line: &[u8]) {
-    show_cut(area(line, 0, 1, 2).next_child(given(line, 3)));
+fn next_child<W: Write>(out: &mut W, line: &[u8]) -> io::Result<()> {
+    show_cut(out, area(line, 0, 1, 2).next_child(given(line, 3)))
 }
 
 // The parent, and what its children share; upright where the last number is 0.
-fn corner(line: &[u8]) {
-    show_cut(area(line, 0, 1, 2).corner(given(line, 4) == 0, given(line, 3)));
+fn corner<W: Write>(out: &mut W, line: &[u8]) -> io::Result<()> {
+    show_cut(
+        out,
+        area(line, 0, 1, 2).corner(given(line, 4) == 0, given(line, 3)),
+    )
 }
 
 // The call that a line's first word names, with the bytes that the line gives.
-fn call(line: &[u8], bytes: &[u8], n: usize) {
+fn call<W: Write>(out: &mut W, line: &[u8], bytes: &[u8], n: usize) -> io::Result<()> {
     let command = item_after(line, start()).word;
     if bytes.len() < n {
-        return;
+        return Ok(());
     }
     match command {
-        b'n' => number(&bytes[0..n], given(line, 0)),
-        b'w' => write(line),
-        b'h' => contains(line),
-        b'a' => disjoint(line),
-        b'p' => next_child(line),
-        b'c' => corner(line),
-        _ => {}
+        b'n' => number(out, &bytes[0..n], given(line, 0)),
+        b'w' => write(out, line),
+        b'h' => contains(out, line),
+        b'a' => disjoint(out, line),
+        b'p' => next_child(out, line),
+        b'c' => corner(out, line),
+        _ => Ok(()),
     }
 }
 
-fn one(line: &[u8]) {
-    show::text(line);
+fn one<W: Write>(out: &mut W, line: &[u8]) -> io::Result<()> {
+    show::text(out, line)?;
     let mut buffer = [0u8; 65536];
     let n = bytes(line, &mut buffer);
-    call(line, &buffer, n);
-    show::byte(b'\n');
+    call(out, line, &buffer, n)?;
+    show::byte(out, b'\n')
 }
 
-fn each(text: &[u8]) {
+fn each<W: Write>(out: &mut W, text: &[u8]) -> io::Result<()> {
     let mut start = 0;
     let mut i = 0;
     while i < text.len() {
         let end = i;
         i += 1;
         if text[end] == b'\n' {
-            one(&text[start..end]);
+            one(out, &text[start..end])?;
             start = i;
         }
     }
+    Ok(())
 }
 
-fn main() {
-    let mut text = io::large_buffer();
-    let n = io::read_full(STDIN_FILENO, &mut text);
-    each(&text[..n]);
+fn main(rt: HostRuntime) -> io::Result<()> {
+    let mut text = Vec::new(rt.alloc());
+    rt.stdin().take(MOST_BYTES).read_to_end(&mut text)?;
+    let mut out = BufWriter::new(rt.alloc(), io::writer(&rt))?;
+    each(&mut out, &text)?;
+    out.flush()
 }
