@@ -3,13 +3,15 @@
 #![tactic(auto)]
 
 ghost use Rattle.std.specs.Prelude.{◌≡◌, ◌≤◌, length, take};
-ghost use Rattle.io.specs.Counts.{IsPrefixLen};
-ghost use Rattle.rules.specs.Lent.{new};
 ghost use Rattle.small.specs.Small.{list_bytes};
 
-use libc::{STDIN_FILENO, STDOUT_FILENO};
 use number::{Drawn, Written, number_at};
 use small_requests::small_requests;
+use std::io;
+use std::io::Read;
+
+// How many bytes of input are read.
+const MOST_BYTES: u64 = 65536;
 
 // How many bytes the longest list has: 264 requests of 22 bytes.
 const LONGEST: usize = 5808;
@@ -17,7 +19,7 @@ const LONGEST: usize = 5808;
 // Writes the list for a size at the start of a buffer, which has room for any, and answers its length.
 fn list(size: u32, buffer: &mut [u8]) -> usize
     requires { 5808 ≤ length buffer.old }
-    ensures prefix_len { IsPrefixLen result buffer.new }
+    ensures prefix_len { result ≤ length buffer.new }
     ensures buffer_value { take result buffer.new ≡ list_bytes size }
 {
     match small_requests(size, buffer) {
@@ -33,10 +35,10 @@ fn size_of(input: &[u8]) -> u32 {
     }
 }
 
-fn main() {
-    let mut input = io::large_buffer();
-    let n = io::read_full(STDIN_FILENO, &mut input);
+fn main(rt: HostRuntime) -> io::Result<()> {
+    let mut input = Vec::new(rt.alloc());
+    rt.stdin().take(MOST_BYTES).read_to_end(&mut input)?;
     let mut buffer = [0u8; LONGEST];
-    let length = list(size_of(&input[..n]), &mut buffer);
-    io::write_all(STDOUT_FILENO, &buffer[..length]);
+    let length = list(size_of(&input), &mut buffer);
+    rt.write_all(&buffer[..length])
 }
