@@ -12,7 +12,7 @@ use Rattle.request.specs.Entries.{Entry, entry, quota}
 use Rattle.request.specs.Forest.{Forest, none, tree, Direction, upright, inverted, pre_l}
 use Rattle.request.specs.Numbering.{whole, size, up_l, up_r, down_l, down_r, lefts, rights}
 use Rattle.request.specs.Reading.{request_of}
-use Rattle.reading.specs.Work.{Work, work, filled}
+use Rattle.reading.specs.Work.{Work, work, enter, filled}
 use Rattle.reading.specs.Inside.Work.{TreesIn}
 use Rattle.request.proofs.ReadLaws.{request_legal}
 use Rattle.reading.proofs.Work.{Places, filled_back, filled_in, Received}
@@ -73,8 +73,10 @@ record Alike (w v : Work) : Type 0 where
 alike_filled : (w v : Work) (at : ℕ) (t : Forest) → Alike w v → Alike (filled w at t) (filled v at t)
 alike_filled w v at none a = a
 alike_filled w v at (tree e c r) a =
-    alike_filled _ _ (at + 1 + size c) r
-    (alike_filled _ _ (at + 1) c (record {
+    let x = enter w at e.id (quota e) (at + 1 + size c) (quota e + whole c) in
+    let y = enter v at e.id (quota e) (at + 1 + size c) (quota e + whole c) in
+    alike_filled (filled x (at + 1) c) (filled y (at + 1) c) (at + 1 + size c) r
+    (alike_filled x y (at + 1) c (record {
       quotas_same = ap (λ s. lib.ListN.set s at (quota e)) a.quotas_same;
       ends_same = ap (λ s. lib.ListN.set s at (at + 1 + size c)) a.ends_same;
       sums_same = ap (λ s. lib.ListN.set s at (quota e + whole c)) a.sums_same;
@@ -84,8 +86,9 @@ alike_filled w v at (tree e c r) a =
 filled_lengths : (w : Work) (at : ℕ) (t : Forest) → (length (filled w at t).ends ≡ length w.ends) × (length (filled w at t).sums ≡ length w.sums)
 filled_lengths w at none = (refl, refl)
 filled_lengths w at (tree e c r) =
-    let f = filled_lengths _ (at + 1 + size c) r in
-    let g = filled_lengths _ (at + 1) c in
+    let v = enter w at e.id (quota e) (at + 1 + size c) (quota e + whole c) in
+    let f = filled_lengths (filled v (at + 1) c) (at + 1 + size c) r in
+    let g = filled_lengths v (at + 1) c in
     (f.0 ∙ g.0 ∙ length-set w.ends at _, f.1 ∙ g.1 ∙ length-set w.sums at _)
 
 module _ {bytes : List ℕ} {w v : Work} {x n z : ℕ} {up : Bool} (b : Bytes bytes) (r : Received bytes w v x up n z)

@@ -67,19 +67,19 @@ module _ (e : Entry) (q : ℕ) (own : quota e ≡ q) (c f : Forest) (l r b : ℕ
 -- as many numbers as entries
 up_l_length : (b : ℕ) (t : Forest) → length (up_l b t) ≡ size t
 up_l_length b none = refl
-up_l_length b (tree i c f) = ap suc (length-append (up_l (b + quota i) c) _ ∙ ap₂ ◌+◌ (up_l_length _ c) (up_l_length _ f))
+up_l_length b (tree i c f) = ap suc (length-append (up_l (b + quota i) c) _ ∙ ap₂ ◌+◌ (up_l_length (b + quota i) c) (up_l_length (b + quota i + whole c) f))
 
 up_r_length : (b : ℕ) (t : Forest) → length (up_r b t) ≡ size t
 up_r_length b none = refl
-up_r_length b (tree i c f) = ap suc (length-append (up_r (b + whole f + quota i) c) _ ∙ ap₂ ◌+◌ (up_r_length _ c) (up_r_length _ f))
+up_r_length b (tree i c f) = ap suc (length-append (up_r (b + whole f + quota i) c) _ ∙ ap₂ ◌+◌ (up_r_length (b + whole f + quota i) c) (up_r_length b f))
 
 down_l_length : (b : ℕ) (t : Forest) → length (down_l b t) ≡ size t
 down_l_length b none = refl
-down_l_length b (tree i c f) = ap suc (length-append (down_l b c) _ ∙ ap₂ ◌+◌ (down_l_length _ c) (down_l_length _ f))
+down_l_length b (tree i c f) = ap suc (length-append (down_l b c) _ ∙ ap₂ ◌+◌ (down_l_length b c) (down_l_length (b + whole c + quota i) f))
 
 down_r_length : (b : ℕ) (t : Forest) → length (down_r b t) ≡ size t
 down_r_length b none = refl
-down_r_length b (tree i c f) = ap suc (length-append (down_r (b + whole f) c) _ ∙ ap₂ ◌+◌ (down_r_length _ c) (down_r_length _ f))
+down_r_length b (tree i c f) = ap suc (length-append (down_r (b + whole f) c) _ ∙ ap₂ ◌+◌ (down_r_length (b + whole f) c) (down_r_length b f))
 
 pub lefts_length : (up : Bool) (b : ℕ) (t : Forest) → length (lefts (direction_by up) b t) ≡ size t
 lefts_length true b t = up_l_length b t
