@@ -4,7 +4,6 @@
 ghost use Rattle.std.specs.Prelude.{◌≡◌, [], ◌<◌, length};
 ghost use Rattle.rules.specs.Answers.{answer};
 ghost use Rattle.table.specs.Columns.{columns, row_at};
-ghost use Rattle.table.specs.Columns.{columns};
 ghost use Rattle.order.specs.Order.{compare, order_by, subgroup};
 ghost use Rattle.order.specs.Order.{order as table_order};
 ghost use Rattle.order.specs.Says.{ordered_says};
@@ -14,7 +13,7 @@ use rules::Refusal;
 use table::{Checked, check_columns, place_of};
 
 // How two groups stand to each other.
-#[derive(Drop)]
+#[derive(Clone, Copy)]
 pub enum Ordered {
     // One group named twice.
     Same,
@@ -34,6 +33,7 @@ fn is_subgroup(gl: LValue, gr: RValue, hl: LValue, hr: RValue) -> bool
 }
 
 // What is said of two groups: the same, the first below the second as its subgroup, or the second below the first.
+#[tactic(auto, unfolding(crate::specs::Order::order_by))]
 fn order_by(same_id: bool, first_below: bool, second_below: bool) -> Ordered
     ensures { ordered_says result ≡ answer (order_by same_id first_below second_below) }
 {
