@@ -41,7 +41,7 @@ differ_times x [] h = omega arith
 differ_times x (y ∷ s) h =
     let b = and_both (none_is y s) (all_differ s) h in
     by_eq x y
-    (λ e. rw (eq-eqb x y e, e) (omega (arith, none_times y s b.0)))
+    (λ e. let n : times_in x s ≡ 0 = rw e (none_times y s b.0) in rw (eq-eqb x y e) (omega arith))
     (λ e. rw (ne_eqb x y e) (omega (arith, differ_times x s b.1)))
 
 -- a test that fails at each id
