@@ -4,7 +4,7 @@
 ghost use Rattle.std.specs.Prelude.{◌≡◌, max};
 ghost use Rattle.unbroken.specs.Inside.Run.{earlier, follows_from, reaches, with_stretch, set_aside, carry};
 
-#[derive(Drop)]
+#[derive(Clone, Copy)]
 pub struct Run {
     // Its last day as far as it is known; the day before today while none is.
     pub until: u32,
