@@ -2,8 +2,7 @@
 #![tactic(auto)]
 
 ghost use Rattle.std.specs.Prelude.{◌≡◌};
-ghost use Rattle.table.specs.Columns.{counted, afterwards};
-ghost use Rattle.table.specs.Columns.{columns};
+ghost use Rattle.table.specs.Columns.{columns, counted, afterwards};
 ghost use Rattle.table.specs.Says.{counted_says};
 ghost use Rattle.fresh.specs.Fresh.{fresh_rows};
 
