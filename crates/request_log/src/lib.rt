@@ -12,7 +12,7 @@ pub use room::no_room;
 use rules::Refusal;
 
 // The fresh pair that begins a log.
-#[derive(Drop)]
+#[derive(Clone, Copy)]
 pub enum PairRead {
     // Its id, its quota, and the position after them.
     Pair(u32, u32, usize),
@@ -20,7 +20,7 @@ pub enum PairRead {
 }
 
 // A request in a log.
-#[derive(Drop)]
+#[derive(Clone, Copy)]
 pub enum PartRead {
     // Where its bytes start, and where they end.
     Part(usize, usize),
