@@ -10,7 +10,7 @@ use rules::Refusal;
 pub use tables::write_table;
 
 // What a line says.
-#[derive(Drop)]
+#[derive(Clone, Copy)]
 pub enum Line {
     // `ok` and a count.
     Ok(u32),
