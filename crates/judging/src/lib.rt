@@ -8,7 +8,7 @@ pub use judging::judge;
 use rules::Refusal;
 
 // What a request that was read comes to.
-#[derive(Drop)]
+#[derive(Clone, Copy)]
 pub enum Judged {
     // The row of the group that it explodes.
     Row(usize),
