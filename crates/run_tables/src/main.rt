@@ -1,17 +1,21 @@
 // The test program for fresh tables, the check and the order: its input is a script, of which it prints each line with what the line's call answers.
 #![tactic(auto)]
 
-use libc::STDIN_FILENO;
 use order::Ordered;
 use script::{given, item_after, start};
 use script_values::{column, narrow};
 use show::{answer, rows};
+use std::io;
+use std::io::{BufWriter, Read, Write};
 use table::Checked;
+
+// How many bytes of input are read.
+const MOST_BYTES: u64 = 65536;
 
 // Where a column says how many rows it has.
 const ROWS: usize = 257;
 
-fn fresh(line: &[u8]) {
+fn fresh<W: Write>(out: &mut W, line: &[u8]) -> io::Result<()> {
     let mut id = column(line, b'i');
     let mut l = column(line, b'l');
     let mut r = column(line, b'r');
@@ -20,40 +24,68 @@ fn fresh(line: &[u8]) {
     let b = rows(l[ROWS]);
     let c = rows(r[ROWS]);
     let d = rows(q[ROWS]);
-    show::counted(fresh::fresh(
-        &mut id[0..a],
-        &mut l[0..b],
-        &mut r[0..c],
-        &mut q[0..d],
-        narrow(given(line, 0)),
-        narrow(given(line, 1)),
-    ));
-    show::columns(&id, &l, &r, &q);
+    show::counted(
+        out,
+        fresh::fresh(
+            &mut id[0..a],
+            &mut l[0..b],
+            &mut r[0..c],
+            &mut q[0..d],
+            narrow(given(line, 0)),
+            narrow(given(line, 1)),
+        ),
+    )?;
+    show::columns(out, &id, &l, &r, &q)
 }
 
-fn check(id: &[u32], l: &[u32], r: &[u32], q: &[u32], count: usize) {
+fn check<W: Write>(
+    out: &mut W,
+    id: &[u32],
+    l: &[u32],
+    r: &[u32],
+    q: &[u32],
+    count: usize,
+) -> io::Result<()> {
     match table::check_columns(id, l, r, q, count) {
-        Checked::Sound => answer(show::SOUND, 0),
-        Checked::Refused(why) => show::refused(why),
+        Checked::Sound => answer(out, show::SOUND, 0),
+        Checked::Refused(why) => show::refused(out, why),
     }
 }
 
-fn order(id: &[u32], l: &[u32], r: &[u32], q: &[u32], count: usize, a: u32, b: u32) {
+fn order<W: Write>(
+    out: &mut W,
+    id: &[u32],
+    l: &[u32],
+    r: &[u32],
+    q: &[u32],
+    count: usize,
+    a: u32,
+    b: u32,
+) -> io::Result<()> {
     match order::order(id, l, r, q, count, a, b) {
-        Ordered::Same => answer(show::SAME, 0),
-        Ordered::First => answer(show::FIRST, 0),
-        Ordered::Second => answer(show::SECOND, 0),
-        Ordered::Incomparable => answer(show::INCOMPARABLE, 0),
-        Ordered::Refused(why) => show::refused(why),
+        Ordered::Same => answer(out, show::SAME, 0),
+        Ordered::First => answer(out, show::FIRST, 0),
+        Ordered::Second => answer(out, show::SECOND, 0),
+        Ordered::Incomparable => answer(out, show::INCOMPARABLE, 0),
+        Ordered::Refused(why) => show::refused(out, why),
     }
 }
 
 // A call that reads columns.
-fn on_columns(command: u8, line: &[u8], id: &[u32], l: &[u32], r: &[u32], q: &[u32]) {
+fn on_columns<W: Write>(
+    out: &mut W,
+    command: u8,
+    line: &[u8],
+    id: &[u32],
+    l: &[u32],
+    r: &[u32],
+    q: &[u32],
+) -> io::Result<()> {
     let count = given(line, 0) as usize;
     match command {
-        b'c' => check(id, l, r, q, count),
+        b'c' => check(out, id, l, r, q, count),
         _ => order(
+            out,
             id,
             l,
             r,
@@ -65,7 +97,7 @@ fn on_columns(command: u8, line: &[u8], id: &[u32], l: &[u32], r: &[u32], q: &[u
     }
 }
 
-fn read(command: u8, line: &[u8]) {
+fn read<W: Write>(out: &mut W, command: u8, line: &[u8]) -> io::Result<()> {
     let id = column(line, b'i');
     let l = column(line, b'l');
     let r = column(line, b'r');
@@ -74,40 +106,43 @@ fn read(command: u8, line: &[u8]) {
     let b = rows(l[ROWS]);
     let c = rows(r[ROWS]);
     let d = rows(q[ROWS]);
-    on_columns(command, line, &id[0..a], &l[0..b], &r[0..c], &q[0..d]);
+    on_columns(out, command, line, &id[0..a], &l[0..b], &r[0..c], &q[0..d])
 }
 
 // The call that a line's first word names.
-fn call(line: &[u8]) {
+fn call<W: Write>(out: &mut W, line: &[u8]) -> io::Result<()> {
     let command = item_after(line, start()).word;
     match command {
-        b'f' => fresh(line),
-        b'c' | b'o' => read(command, line),
-        _ => {}
+        b'f' => fresh(out, line),
+        b'c' | b'o' => read(out, command, line),
+        _ => Ok(()),
     }
 }
 
-fn one(line: &[u8]) {
-    show::text(line);
-    call(line);
-    show::byte(b'\n');
+fn one<W: Write>(out: &mut W, line: &[u8]) -> io::Result<()> {
+    show::text(out, line)?;
+    call(out, line)?;
+    show::byte(out, b'\n')
 }
 
-fn each(text: &[u8]) {
+fn each<W: Write>(out: &mut W, text: &[u8]) -> io::Result<()> {
     let mut start = 0;
     let mut i = 0;
     while i < text.len() {
         let end = i;
         i += 1;
         if text[end] == b'\n' {
-            one(&text[start..end]);
+            one(out, &text[start..end])?;
             start = i;
         }
     }
+    Ok(())
 }
 
-fn main() {
-    let mut text = io::large_buffer();
-    let n = io::read_full(STDIN_FILENO, &mut text);
-    each(&text[..n]);
+fn main(rt: HostRuntime) -> io::Result<()> {
+    let mut text = Vec::new(rt.alloc());
+    rt.stdin().take(MOST_BYTES).read_to_end(&mut text)?;
+    let mut out = BufWriter::new(rt.alloc(), io::writer(&rt))?;
+    each(&mut out, &text)?;
+    out.flush()
 }
