@@ -8,7 +8,7 @@ pub use refining::refine;
 use rules::Refusal;
 
 // What a request to a table comes to.
-#[derive(Drop)]
+#[derive(Clone, Copy)]
 enum Verdict {
     // The exploded id, its row and what it has there, and the number of entries.
     Accepted {

@@ -12,7 +12,7 @@ use crate::Verdict;
 use crate::placing::write_rows;
 use judging::{Judged, judge};
 use numbering::number_request;
-use reading::request_read;
+use reading::RequestRead;
 use rules::ENTRY_CAPACITY;
 use table::{Checked, Counted, check_columns};
 
