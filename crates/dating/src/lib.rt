@@ -11,7 +11,7 @@ use rules::Refusal;
 use unbroken::{Run, carry, greater, lesser, reaches};
 
 // What is decided on a feature.
-#[derive(Drop)]
+#[derive(Clone, Copy)]
 pub enum Decided {
     // On, and without an end.
     OnOpen,
@@ -26,7 +26,7 @@ pub enum Decided {
 }
 
 // What is kept of the windows. A day 0 stands for none: the days that are kept here are 1 or more.
-#[derive(Drop)]
+#[derive(Clone, Copy)]
 pub struct Tally {
     // The run of days, as the closed ones carry it.
     run: Run,
