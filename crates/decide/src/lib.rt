@@ -21,7 +21,7 @@ fn question_bad(feature: u32, l: u32, r: u32, day: u32) -> bool
 }
 
 // What one reading of a grant list gives.
-#[derive(Drop)]
+#[derive(Clone, Copy)]
 enum ListRead {
     Tally(Tally),
     Refused(Refusal),

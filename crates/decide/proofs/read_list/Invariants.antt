@@ -1,0 +1,13 @@
+-- `decide::read_list` meets its contract. The loop's invariant: what is still to be read, with the tally so far, gives the whole reading.
+use mathlib.Core.Path.{◌≡◌}
+use Prim.Native.Nat.{◌-◌, ◌≤◌}
+use lib.ListN.{length}
+use Rattle.decide.specs.Inside.ListReading.{list_read}
+use Rattle.decide.proofs.Outcome.{outcome}
+use Rattle.decide.proofs.read_list.Given as goal
+
+abbrev pub invariant-loop-at : goal.invariant-loop-at
+invariant-loop-at l = (l.at ≤ length l.grants) × (outcome l.feature l.l l.r l.day l.grants l.at l.t ≡ list_read l.feature l.l l.r l.day l.grants l.initial.t)
+
+abbrev pub decreases-loop-at : goal.decreases-loop-at
+decreases-loop-at l = length l.grants - l.at
