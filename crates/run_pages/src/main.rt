@@ -2,10 +2,14 @@
 #![tactic(auto)]
 
 use dates::write_date;
-use libc::STDIN_FILENO;
 use number::Written;
 use script::{given, item_after, start};
 use script_values::{bytes, narrow, room};
+use std::io;
+use std::io::{BufWriter, Read, Write};
+
+// How many bytes of input are read.
+const MOST_BYTES: u64 = 65536;
 
 fn bytes_of(w: Written) -> usize {
     match w {
@@ -15,16 +19,16 @@ fn bytes_of(w: Written) -> usize {
 }
 
 // Writes the date of a day into so many bytes.
-fn date(line: &[u8]) {
+fn date<W: Write>(out: &mut W, line: &[u8]) -> io::Result<()> {
     let mut buffer = show::unwritten();
     let n = room(given(line, 1));
     let w = write_date(&mut buffer[0..n], 0, narrow(given(line, 0)));
-    show::written(w);
-    show::whole(&buffer, bytes_of(w));
+    show::written(out, w)?;
+    show::whole(out, &buffer, bytes_of(w))
 }
 
 // Writes the page of a pass on a day into so many bytes.
-fn page(line: &[u8], grants: &[u8]) {
+fn page<W: Write>(out: &mut W, line: &[u8], grants: &[u8]) -> io::Result<()> {
     let mut buffer = show::unwritten();
     let n = room(given(line, 3));
     let w = page::page(
@@ -34,46 +38,49 @@ fn page(line: &[u8], grants: &[u8]) {
         grants,
         &mut buffer[0..n],
     );
-    show::written(w);
-    show::whole(&buffer, bytes_of(w));
+    show::written(out, w)?;
+    show::whole(out, &buffer, bytes_of(w))
 }
 
 // The call that a line's first word names, with the bytes that the line gives.
-fn call(line: &[u8], bytes: &[u8], n: usize) {
+fn call<W: Write>(out: &mut W, line: &[u8], bytes: &[u8], n: usize) -> io::Result<()> {
     let command = item_after(line, start()).word;
     if bytes.len() < n {
-        return;
+        return Ok(());
     }
     match command {
-        b'd' => date(line),
-        b'p' => page(line, &bytes[0..n]),
-        _ => {}
+        b'd' => date(out, line),
+        b'p' => page(out, line, &bytes[0..n]),
+        _ => Ok(()),
     }
 }
 
-fn one(line: &[u8]) {
-    show::text(line);
+fn one<W: Write>(out: &mut W, line: &[u8]) -> io::Result<()> {
+    show::text(out, line)?;
     let mut buffer = [0u8; 65536];
     let n = bytes(line, &mut buffer);
-    call(line, &buffer, n);
-    show::byte(b'\n');
+    call(out, line, &buffer, n)?;
+    show::byte(out, b'\n')
 }
 
-fn each(text: &[u8]) {
+fn each<W: Write>(out: &mut W, text: &[u8]) -> io::Result<()> {
     let mut start = 0;
     let mut i = 0;
     while i < text.len() {
         let end = i;
         i += 1;
         if text[end] == b'\n' {
-            one(&text[start..end]);
+            one(out, &text[start..end])?;
             start = i;
         }
     }
+    Ok(())
 }
 
-fn main() {
-    let mut text = io::large_buffer();
-    let n = io::read_full(STDIN_FILENO, &mut text);
-    each(&text[..n]);
+fn main(rt: HostRuntime) -> io::Result<()> {
+    let mut text = Vec::new(rt.alloc());
+    rt.stdin().take(MOST_BYTES).read_to_end(&mut text)?;
+    let mut out = BufWriter::new(rt.alloc(), io::writer(&rt))?;
+    each(&mut out, &text)?;
+    out.flush()
 }
