@@ -31,7 +31,7 @@ use small_requests::small_requests;
 use store::store;
 
 // A fresh table: row 0 is the group at (1, 1) with the quota.
-pub extern "C" fn zintukor_fresh(
+pub fn zintukor_fresh(
     id: &mut [u32],
     l: &mut [u32],
     r: &mut [u32],
@@ -46,7 +46,7 @@ pub extern "C" fn zintukor_fresh(
 }
 
 // Explodes a group as the request's bytes say.
-pub extern "C" fn zintukor_refine(
+pub fn zintukor_refine(
     id: &mut [u32],
     l: &mut [u32],
     r: &mut [u32],
@@ -61,7 +61,7 @@ pub extern "C" fn zintukor_refine(
 }
 
 // The order of two groups.
-pub extern "C" fn zintukor_order(
+pub fn zintukor_order(
     id: &[u32],
     l: &[u32],
     r: &[u32],
@@ -76,7 +76,7 @@ pub extern "C" fn zintukor_order(
 }
 
 // The decision on a feature for a pass (l, r) and a day.
-pub extern "C" fn zintukor_decide(feature: u32, l: u32, r: u32, day: u32, grants: &[u8]) -> u64
+pub fn zintukor_decide(feature: u32, l: u32, r: u32, day: u32, grants: &[u8]) -> u64
     ensures { result ≡ decision_code (decided feature l r day grants.now) }
 {
     decision_code(decide(feature, l, r, day, grants))
@@ -84,7 +84,7 @@ pub extern "C" fn zintukor_decide(feature: u32, l: u32, r: u32, day: u32, grants
 
 // The page of a pass (l, r) on a day, for the shift board. An answer's value has 32 bits: of a buffer that is longer, as many bytes as that
 // are used.
-pub extern "C" fn zintukor_page(l: u32, r: u32, day: u32, grants: &[u8], buffer: &mut [u8]) -> u64
+pub fn zintukor_page(l: u32, r: u32, day: u32, grants: &[u8], buffer: &mut [u8]) -> u64
     ensures value { result ≡ count_code (page_answer l r day grants.now (take greatest buffer.old)) }
     ensures buffer_value { buffer.new ≡ page_buffer (page_of l r day grants.now) (take greatest buffer.old) ++ drop greatest buffer.old }
 {
@@ -93,7 +93,7 @@ pub extern "C" fn zintukor_page(l: u32, r: u32, day: u32, grants: &[u8], buffer:
 }
 
 // Stores a table as bytes.
-pub extern "C" fn zintukor_store(
+pub fn zintukor_store(
     id: &[u32],
     l: &[u32],
     r: &[u32],
@@ -108,7 +108,7 @@ pub extern "C" fn zintukor_store(
 }
 
 // Reads a stored table in.
-pub extern "C" fn zintukor_read(
+pub fn zintukor_read(
     id: &mut [u32],
     l: &mut [u32],
     r: &mut [u32],
@@ -122,7 +122,7 @@ pub extern "C" fn zintukor_read(
 }
 
 // Writes every small request of a size, in order, each after its length.
-pub extern "C" fn zintukor_small_requests(size: u32, buffer: &mut [u8]) -> u64
+pub fn zintukor_small_requests(size: u32, buffer: &mut [u8]) -> u64
     ensures value { result ≡ count_code (written buffer.old 0 (list_bytes size)) }
     ensures buffer_value { buffer.new ≡ after buffer.old 0 (list_bytes size) }
 {

@@ -1,0 +1,15 @@
+-- `zintukor::zintukor_fresh` meets its contract: the engine's answer, encoded.
+use mathlib.Core.Path.{ap, ◌∙◌}
+use Rattle.codes.specs.Codes.{count_code}
+use Rattle.zintukor.proofs.Bounds.{fresh_small}
+use Rattle.zintukor.proofs.zintukor_fresh.Goals as goal
+
+pub counted_code-requires : goal.counted_code-requires
+counted_code-requires c = rw c.fresh.ensures.result_value (fresh_small _ _ _)
+
+pub returns : goal.returns
+returns c =
+    record {
+      value = c.counted_code.ensures ∙ ap count_code c.fresh.ensures.result_value;
+      q_value = c.fresh.ensures.q_value;
+    }
