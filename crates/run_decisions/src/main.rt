@@ -2,36 +2,43 @@
 #![tactic(auto)]
 
 use dating::Decided;
-use libc::STDIN_FILENO;
 use number::Written;
 use script::{given, item_after, start};
 use script_values::{bytes, narrow, room};
 use show::answer;
+use std::io;
+use std::io::{BufWriter, Read, Write};
 
-fn decided(d: Decided) {
+// How many bytes of input are read.
+const MOST_BYTES: u64 = 65536;
+
+fn decided<W: Write>(out: &mut W, d: Decided) -> io::Result<()> {
     match d {
-        Decided::OnOpen => answer(show::OPEN, 0),
-        Decided::OnUntil(day) => answer(show::ON, day as u64),
-        Decided::Ended(day) => answer(show::ENDED, day as u64),
-        Decided::Ahead(day) => answer(show::AHEAD, day as u64),
-        Decided::Never => answer(show::NEVER, 0),
-        Decided::Refused(why) => show::refused(why),
+        Decided::OnOpen => answer(out, show::OPEN, 0),
+        Decided::OnUntil(day) => answer(out, show::ON, day as u64),
+        Decided::Ended(day) => answer(out, show::ENDED, day as u64),
+        Decided::Ahead(day) => answer(out, show::AHEAD, day as u64),
+        Decided::Never => answer(out, show::NEVER, 0),
+        Decided::Refused(why) => show::refused(out, why),
     }
 }
 
 // By a feature, a pass and a day.
-fn decide(line: &[u8], grants: &[u8]) {
-    decided(decide::decide(
-        narrow(given(line, 0)),
-        narrow(given(line, 1)),
-        narrow(given(line, 2)),
-        narrow(given(line, 3)),
-        grants,
-    ));
+fn decide<W: Write>(out: &mut W, line: &[u8], grants: &[u8]) -> io::Result<()> {
+    decided(
+        out,
+        decide::decide(
+            narrow(given(line, 0)),
+            narrow(given(line, 1)),
+            narrow(given(line, 2)),
+            narrow(given(line, 3)),
+            grants,
+        ),
+    )
 }
 
-fn question(bytes: &[u8]) {
-    decided(decide::question(bytes));
+fn question<W: Write>(out: &mut W, bytes: &[u8]) -> io::Result<()> {
+    decided(out, decide::question(bytes))
 }
 
 fn bytes_of(w: Written) -> usize {
@@ -42,51 +49,54 @@ fn bytes_of(w: Written) -> usize {
 }
 
 // Writes the line that `may` prints of a question into so many bytes.
-fn may(question: &[u8], space: u64) {
+fn may<W: Write>(out: &mut W, question: &[u8], space: u64) -> io::Result<()> {
     let mut buffer = show::unwritten();
     let n = room(space);
     let w = decision_line::write_decision(&mut buffer[0..n], 0, decide::question(question));
-    show::written(w);
-    show::whole(&buffer, bytes_of(w));
+    show::written(out, w)?;
+    show::whole(out, &buffer, bytes_of(w))
 }
 
 // The call that a line's first word names, with the bytes that the line gives.
-fn call(line: &[u8], bytes: &[u8], n: usize) {
+fn call<W: Write>(out: &mut W, line: &[u8], bytes: &[u8], n: usize) -> io::Result<()> {
     let command = item_after(line, start()).word;
     if bytes.len() < n {
-        return;
+        return Ok(());
     }
     match command {
-        b'd' => decide(line, &bytes[0..n]),
-        b'q' => question(&bytes[0..n]),
-        b'm' => may(&bytes[0..n], given(line, 0)),
-        _ => {}
+        b'd' => decide(out, line, &bytes[0..n]),
+        b'q' => question(out, &bytes[0..n]),
+        b'm' => may(out, &bytes[0..n], given(line, 0)),
+        _ => Ok(()),
     }
 }
 
-fn one(line: &[u8]) {
-    show::text(line);
+fn one<W: Write>(out: &mut W, line: &[u8]) -> io::Result<()> {
+    show::text(out, line)?;
     let mut buffer = [0u8; 65536];
     let n = bytes(line, &mut buffer);
-    call(line, &buffer, n);
-    show::byte(b'\n');
+    call(out, line, &buffer, n)?;
+    show::byte(out, b'\n')
 }
 
-fn each(text: &[u8]) {
+fn each<W: Write>(out: &mut W, text: &[u8]) -> io::Result<()> {
     let mut start = 0;
     let mut i = 0;
     while i < text.len() {
         let end = i;
         i += 1;
         if text[end] == b'\n' {
-            one(&text[start..end]);
+            one(out, &text[start..end])?;
             start = i;
         }
     }
+    Ok(())
 }
 
-fn main() {
-    let mut text = io::large_buffer();
-    let n = io::read_full(STDIN_FILENO, &mut text);
-    each(&text[..n]);
+fn main(rt: HostRuntime) -> io::Result<()> {
+    let mut text = Vec::new(rt.alloc());
+    rt.stdin().take(MOST_BYTES).read_to_end(&mut text)?;
+    let mut out = BufWriter::new(rt.alloc(), io::writer(&rt))?;
+    each(&mut out, &text)?;
+    out.flush()
 }
