@@ -2,13 +2,16 @@
 #![tactic(auto)]
 
 ghost use Rattle.std.specs.Prelude.{◌≡◌, ◌≤◌, length, take};
-ghost use Rattle.io.specs.Counts.{IsPrefixLen};
 ghost use Rattle.decide.specs.Decision.{asked};
 ghost use Rattle.decision_line.specs.DecisionText.{decision_text};
 
 use decision_line::write_decision;
-use libc::{STDIN_FILENO, STDOUT_FILENO};
 use number::Written;
+use std::io;
+use std::io::Read;
+
+// How many bytes of input are read.
+const MOST_BYTES: u64 = 65536;
 
 // How many bytes the longest line has: `ahead 4294967295` and a line feed.
 const LONGEST: usize = 17;
@@ -16,7 +19,7 @@ const LONGEST: usize = 17;
 // Writes the line for a question at the start of a text, which has room for any, and answers its length.
 fn answer(question: &[u8], text: &mut [u8]) -> usize
     requires { 17 ≤ length text.old }
-    ensures prefix_len { IsPrefixLen result text.new }
+    ensures prefix_len { result ≤ length text.new }
     ensures text_value { take result text.new ≡ decision_text (asked question.now) }
 {
     match write_decision(text, 0, decide::question(question)) {
@@ -25,10 +28,10 @@ fn answer(question: &[u8], text: &mut [u8]) -> usize
     }
 }
 
-fn main() {
-    let mut input = io::large_buffer();
-    let n = io::read_full(STDIN_FILENO, &mut input);
+fn main(rt: HostRuntime) -> io::Result<()> {
+    let mut input = Vec::new(rt.alloc());
+    rt.stdin().take(MOST_BYTES).read_to_end(&mut input)?;
     let mut text = [0u8; LONGEST];
-    let length = answer(&input[..n], &mut text);
-    io::write_all(STDOUT_FILENO, &text[..length]);
+    let length = answer(&input, &mut text);
+    rt.write_all(&text[..length])
 }
