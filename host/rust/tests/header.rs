@@ -6,7 +6,7 @@ const HEADER: &str = include_str!("../../../include/zintukor.h");
 const ENGINE: &str = include_str!("../../../crates/rules/src/lib.rt");
 const BOARD: &str = include_str!("../../../crates/board/src/lib.rt");
 const SMALL: &str = include_str!("../../../crates/small_requests/src/lib.rt");
-const CALLS: &str = include_str!("../../../crates/zintukor/src/lib.rt");
+const CALLS: &str = include_str!("../../../crates/zintukor_c/src/lib.rt");
 const DECLARED: &str = include_str!("../src/ffi.rs");
 
 /// The header's macros without parameters: name and value.
