@@ -22,21 +22,20 @@ pub record Filling (ids : List ℕ) (x n : ℕ) (all₀ all : List ℕ) (m i : �
 pub begins : (ids : List ℕ) (x n : ℕ) (all : List ℕ) → Filling ids x n all all n 0
 begins ids x n all = record { inside = omega arith; most = omega arith; end = refl; whole = refl }
 
+-- the first of the ids that are left is one of the others, or it is not
+module _ (ids : List ℕ) (x i : ℕ) (h : i < length ids) where
+  pub others_here : (get_or ids i 0 ≡ x → ⊥) → others_than x (drop i ids) ≡ get_or ids i 0 ∷ others_than x (drop (i + 1) ids)
+  unfolding others_than
+  others_here e = ap (others_than x) (ids_step ids i h) ∙ rw (ne_eqb x (get_or ids i 0) (λ z. e (sym z)))
+
+  pub others_past : get_or ids i 0 ≡ x → others_than x (drop i ids) ≡ others_than x (drop (i + 1) ids)
+  unfolding others_than
+  others_past e = ap (others_than x) (ids_step ids i h) ∙ rw (eq-eqb x (get_or ids i 0) (sym e))
+
+pub sets_more : (s : List ℕ) (n v : ℕ) (vs : List ℕ) → sets s n (v ∷ vs) ≡ sets (set s n v) (n + 1) vs
+sets_more s n v vs = rw (add-one n)
+
 module _ {ids : List ℕ} {x n : ℕ} {all₀ all : List ℕ} {m i : ℕ} (f : Filling ids x n all₀ all m i) where
-  pub puts : i < length ids → (get_or ids i 0 ≡ x → ⊥) → Filling ids x n all₀ (set all m (get_or ids i 0)) (m + 1) (i + 1)
-  unfolding others_than
-  puts h e =
-      let g = f in
-      let o : others_than x (drop i ids) ≡ get_or ids i 0 ∷ others_than x (drop (i + 1) ids) = ap (others_than x) (ids_step ids i h) ∙ rw (ne_eqb x (get_or ids i 0) (λ z. e (sym z))) in
-      record { inside = omega arith; most = omega arith; end = omega (arith, ap length o); whole = rw (add-one m) (rw o at f.whole) }
-
-  pub passes : i < length ids → get_or ids i 0 ≡ x → Filling ids x n all₀ all m (i + 1)
-  unfolding others_than
-  passes h e =
-      let g = f in
-      let o : others_than x (drop i ids) ≡ others_than x (drop (i + 1) ids) = ap (others_than x) (ids_step ids i h) ∙ rw (eq-eqb x (get_or ids i 0) (sym e)) in
-      record { inside = omega arith; most = omega arith; end = omega (arith, ap length o); whole = rw o at f.whole }
-
   pub done : length ids ≤ i → Collects (others_than x ids) n all₀ all m
   unfolding others_than
   done h =

@@ -8,9 +8,6 @@ use Rattle.judging.proofs.Differing.{none_taken, none_twice, twice_is}
 use Rattle.judging.proofs.JudgingLaws.{no_group, not_one, taken, twice, wrong_sum, no_rows, passes}
 use Rattle.judging.proofs.Ids.{times_most}
 use Rattle.judging.proofs.judging.judge.Goals as goal
-use Rattle.judging.proofs.judging.judge.Goals.{then-not-others_differ+else-some_id_taken+else-not-ids_differ, else-not-others_differ}
-
--- neither 22 nor 26, by the quick test or one after the other
 
 pub returns-then-own-id : goal.returns-then-own-id
 returns-then-own-id c = no_group c.args.id.now c.args.q.now _ _ c.args.ids.now _ c.place_of-own.ensures (omega arith)
@@ -33,16 +30,7 @@ returns-then-not-ids_differ c =
 pub returns-then-quota-value_at : goal.returns-then-quota-value_at
 returns-then-quota-value_at c =
     let free : (some_id (taken_in c.args.exploded c.args.id.now) c.args.ids.now ≡ false) × (some_id (twice_in c.args.exploded c.args.ids.now) c.args.ids.now ≡ false) =
-    elim c.if-not-others_differ.branch [
-      | then-not-others_differ+else-some_id_taken+else-not-ids_differ w ↦ (
-        sym w.some_id_taken.ensures ∙ w.if-some_id_taken.false,
-        twice_is c.args.exploded c.args.ids.now (omega (arith, c.times.ensures, c.if-times-ne1.false)) ∙ ap not (sym w.ids_differ.ensures ∙ w.if-not-ids_differ.false),
-      )
-      | else-not-others_differ w ↦
-          let d = c.others_differ.ensures w.if-not-others_differ.false in
-          (none_taken c.args.exploded c.args.id.now c.args.ids.now d, none_twice c.args.exploded c.args.id.now c.args.ids.now d)
-    ]
-    in
+    grind (arith, none_taken, none_twice, twice_is c.args.exploded c.args.ids.now) in
     wrong_sum c.args.id.now c.args.q.now _ _ c.args.ids.now _ c.place_of-own.ensures (λ z. omega (arith, z)) c.times.ensures (omega arith)
     free.0 free.1 (λ z. omega (arith, z))
 
@@ -52,31 +40,13 @@ overflow_sub-id c = omega (arith, times_most c.args.exploded c.args.ids.now, c.t
 pub returns-then-room-id : goal.returns-then-room-id
 returns-then-room-id c =
     let free : (some_id (taken_in c.args.exploded c.args.id.now) c.args.ids.now ≡ false) × (some_id (twice_in c.args.exploded c.args.ids.now) c.args.ids.now ≡ false) =
-    elim c.if-not-others_differ.branch [
-      | then-not-others_differ+else-some_id_taken+else-not-ids_differ w ↦ (
-        sym w.some_id_taken.ensures ∙ w.if-some_id_taken.false,
-        twice_is c.args.exploded c.args.ids.now (omega (arith, c.times.ensures, c.if-times-ne1.false)) ∙ ap not (sym w.ids_differ.ensures ∙ w.if-not-ids_differ.false),
-      )
-      | else-not-others_differ w ↦
-          let d = c.others_differ.ensures w.if-not-others_differ.false in
-          (none_taken c.args.exploded c.args.id.now c.args.ids.now d, none_twice c.args.exploded c.args.id.now c.args.ids.now d)
-    ]
-    in
+    grind (arith, none_taken, none_twice, twice_is c.args.exploded c.args.ids.now) in
     no_rows c.args.id.now c.args.q.now _ _ c.args.ids.now _ c.place_of-own.ensures (λ z. omega (arith, z)) c.times.ensures (omega arith)
     free.0 free.1 (omega arith) (omega arith)
 
 pub returns : goal.returns
 returns c =
     let free : (some_id (taken_in c.args.exploded c.args.id.now) c.args.ids.now ≡ false) × (some_id (twice_in c.args.exploded c.args.ids.now) c.args.ids.now ≡ false) =
-    elim c.if-not-others_differ.branch [
-      | then-not-others_differ+else-some_id_taken+else-not-ids_differ w ↦ (
-        sym w.some_id_taken.ensures ∙ w.if-some_id_taken.false,
-        twice_is c.args.exploded c.args.ids.now (omega (arith, c.times.ensures, c.if-times-ne1.false)) ∙ ap not (sym w.ids_differ.ensures ∙ w.if-not-ids_differ.false),
-      )
-      | else-not-others_differ w ↦
-          let d = c.others_differ.ensures w.if-not-others_differ.false in
-          (none_taken c.args.exploded c.args.id.now c.args.ids.now d, none_twice c.args.exploded c.args.id.now c.args.ids.now d)
-    ]
-    in
+    grind (arith, none_taken, none_twice, twice_is c.args.exploded c.args.ids.now) in
     passes c.args.id.now c.args.q.now _ _ c.args.ids.now _ c.place_of-own.ensures (λ z. omega (arith, z)) c.times.ensures (omega arith)
     free.0 free.1 (omega arith) (omega arith)
