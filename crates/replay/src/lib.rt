@@ -15,13 +15,13 @@ ghost use Rattle.replay.specs.Inside.Carrying.{Countable, carried};
 
 use fresh::fresh;
 use lines::{Line, write_line, write_table};
-use request_log::{PairRead, PartRead, no_room, pair_of, part_at};
 use number::Written;
 use refine::refine;
+use request_log::{PairRead, PartRead, no_room, pair_of, part_at};
 use table::Counted;
 
 // What carrying out a log answers.
-#[derive(Drop)]
+#[derive(Clone, Copy)]
 pub enum Grown {
     // The text was written, so many bytes of it.
     Text(usize),
