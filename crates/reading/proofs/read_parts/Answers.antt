@@ -1,5 +1,5 @@
 -- Each part in its order, and the first refusal met.
-use Rattle.std.proofs.Common.{◌≡◌, ap, sym, ◌∙◌}
+use Rattle.std.proofs.Common.{◌≡◌, ap, sym, ◌∙◌, arith}
 use Rattle.number.specs.Number.{found, number_at}
 use Rattle.number.specs.Says.{drawn_says}
 use Rattle.reader.proofs.Drawing.{first_drawn, second_drawn, third_drawn}
@@ -42,7 +42,7 @@ returns-in-Refused-positive c =
     let second : found c.in-Number-second.direction c.in-Number-second.field-1 ≡ number_at c.args.bytes.now c.in-Number.field-1 =
     sym (ap drawn_says c.in-Number-second.is) ∙ second_drawn _ _ d.result d.ensures.head (positive_number _ _ first) in
     let begun : Begun c.args.bytes.now c.in-Number.exploded c.in-Number-second.direction c.in-Number-second.field-1 =
-    record { after = c.in-Number.field-1; first = first; second = second; known = c.if-direction-gt1.false } in
+    record { after = c.in-Number.field-1; first = first; second = second; known = omega arith } in
     let third = third_drawn _ _ d.result d.ensures.head (positive_number _ _ first) second in
     let r = refusal c.args.bytes.now _ _ (no_count _ begun (c.in-Refused-positive.ensures ∙ positive_at_lem _ _ third)) in
     record { result_value = r.0; request_in = r.1 }
@@ -55,7 +55,7 @@ returns-in-Refused-read_trees c =
     let second : found c.in-Number-second.direction c.in-Number-second.field-1 ≡ number_at c.args.bytes.now c.in-Number.field-1 =
     sym (ap drawn_says c.in-Number-second.is) ∙ second_drawn _ _ d.result d.ensures.head (positive_number _ _ first) in
     let begun : Begun c.args.bytes.now c.in-Number.exploded c.in-Number-second.direction c.in-Number-second.field-1 =
-    record { after = c.in-Number.field-1; first = first; second = second; known = c.if-direction-gt1.false } in
+    record { after = c.in-Number.field-1; first = first; second = second; known = omega arith } in
     let third = third_drawn _ _ d.result d.ensures.head (positive_number _ _ first) second in
     let r = refusal c.args.bytes.now _ _
     (no_trees _ begun (c.in-Number-positive.ensures ∙ positive_at_lem _ _ third) (walk_refused _ c.in-Refused-read_trees.ensures.result_value)) in
@@ -69,7 +69,7 @@ returns-then-end-bytes c =
     let second : found c.in-Number-second.direction c.in-Number-second.field-1 ≡ number_at c.args.bytes.now c.in-Number.field-1 =
     sym (ap drawn_says c.in-Number-second.is) ∙ second_drawn _ _ d.result d.ensures.head (positive_number _ _ first) in
     let begun : Begun c.args.bytes.now c.in-Number.exploded c.in-Number-second.direction c.in-Number-second.field-1 =
-    record { after = c.in-Number.field-1; first = first; second = second; known = c.if-direction-gt1.false } in
+    record { after = c.in-Number.field-1; first = first; second = second; known = omega arith } in
     let third = third_drawn _ _ d.result d.ensures.head (positive_number _ _ first) second in
     let r = refusal c.args.bytes.now _ _
     (remain _ begun (c.in-Number-positive.ensures ∙ positive_at_lem _ _ third) c.in-End.ensures.result_value c.if-end-bytes.true) in
@@ -83,7 +83,7 @@ returns-else-end-bytes c =
     let second : found c.in-Number-second.direction c.in-Number-second.field-1 ≡ number_at c.args.bytes.now c.in-Number.field-1 =
     sym (ap drawn_says c.in-Number-second.is) ∙ second_drawn _ _ d.result d.ensures.head (positive_number _ _ first) in
     let begun : Begun c.args.bytes.now c.in-Number.exploded c.in-Number-second.direction c.in-Number-second.field-1 =
-    record { after = c.in-Number.field-1; first = first; second = second; known = c.if-direction-gt1.false } in
+    record { after = c.in-Number.field-1; first = first; second = second; known = omega arith } in
     let third = third_drawn _ _ d.result d.ensures.head (positive_number _ _ first) second in
     let r = read_whole _ begun (c.in-Number-positive.ensures ∙ positive_at_lem _ _ third) c.in-End.ensures.result_value c.if-end-bytes.false _ _
     c.in-End.ensures.walked in
