@@ -3,9 +3,8 @@
 
 ghost use Rattle.std.specs.Prelude.{◌≡◌, ◌≤◌, length};
 ghost use Rattle.rules.specs.Capacities.{row_capacity};
-ghost use Rattle.table.specs.Columns.{overlay, counted, afterwards};
+ghost use Rattle.table.specs.Columns.{columns, overlay, counted, afterwards};
 ghost use Rattle.table.specs.Inside.Held.{Holds};
-ghost use Rattle.table.specs.Columns.{columns};
 ghost use Rattle.table.specs.Says.{counted_says};
 ghost use Rattle.stored.specs.Stored.{row_read, rows_at, rows_to_end, read_rows};
 ghost use Rattle.load.specs.Inside.Says.{row_says, rows_said, rows_checked, rows_counted};
@@ -16,14 +15,14 @@ use rules::{ROW_CAPACITY, Refusal};
 use table::{Checked, Counted, check_columns, count_bad, lengths_bad};
 
 // A row that stands in bytes: id, l, r, q, and the position after it.
-#[derive(Drop)]
+#[derive(Clone, Copy)]
 enum RowDrawn {
     Row(u32, u32, u32, u32, usize),
     Refused(Refusal),
 }
 
 // The position after the rows that were read.
-#[derive(Drop)]
+#[derive(Clone, Copy)]
 enum Ended {
     At(usize),
     Refused(Refusal),
