@@ -5,11 +5,10 @@ ghost use Rattle.std.specs.Prelude.{◌≡◌, ◌+◌, ◌≤◌, length};
 ghost use Rattle.rules.specs.Buffers.{written, after};
 ghost use Rattle.rules.specs.Limits.{most_rows};
 ghost use Rattle.number.specs.Says.{written_says};
-ghost use Rattle.table.specs.Columns.{rows};
+ghost use Rattle.table.specs.Columns.{columns, rows};
 ghost use Rattle.table.specs.Inside.Held.{Holds};
 ghost use Rattle.table.specs.Check.{checked};
 ghost use Rattle.stored.specs.Stored.{row_bytes, rows_bytes, table_bytes, store_answer, store_buffer};
-ghost use Rattle.table.specs.Columns.{columns};
 
 use number::{Written, number_length, write_number};
 use rules::Refusal;
