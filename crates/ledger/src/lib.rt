@@ -1,4 +1,3 @@
 // The paper ledger (RULES.md, 15) and demand 3.
 // Definitions and proofs alone.
 #![tactic(auto)]
-
