@@ -3,13 +3,16 @@
 #![tactic(auto)]
 
 ghost use Rattle.std.specs.Prelude.{◌≡◌, ◌≤◌, length, replicate, take};
-ghost use Rattle.io.specs.Counts.{IsPrefixLen};
 ghost use Rattle.rules.specs.Limits.{most_rows};
 ghost use Rattle.replay.specs.Replay.{blank, grow_text};
 
-use libc::{STDIN_FILENO, STDOUT_FILENO};
 use replay::Grown;
 use rules::MOST_ROWS;
+use std::io;
+use std::io::Read;
+
+// How many bytes of a log are read.
+const MOST_BYTES: usize = 65536;
 
 // A column of the table.
 fn column() -> [u32; MOST_ROWS]
@@ -31,7 +34,7 @@ fn text_buffer() -> [u8; TEXT_ROOM] {
 fn write_text(log: &[u8], text: &mut [u8]) -> usize
     requires log_len_bound { length log.now ≤ 65536 }
     requires in_bounds { 933888 ≤ length text.old }
-    ensures prefix_len { IsPrefixLen result text.new }
+    ensures prefix_len { result ≤ length text.new }
     ensures text_value { take result text.new ≡ grow_text blank log.now }
 {
     let mut id = column();
@@ -45,23 +48,24 @@ fn write_text(log: &[u8], text: &mut [u8]) -> usize
 }
 
 // Prints so many bytes of a text.
-fn print(text: &[u8], n: usize)
-    requires { IsPrefixLen n text.now }
+fn print(rt: &impl Print, text: &[u8], n: usize) -> io::Result<()>
+    requires { n ≤ length text.now }
 {
-    io::write_all(STDOUT_FILENO, &text[..n]);
+    rt.write_all(&text[..n])
 }
 
 // Carries out a log and prints what it says.
-fn report(log: &[u8], text: &mut [u8; TEXT_ROOM])
+fn report(rt: &impl Print, log: &[u8], text: &mut [u8; TEXT_ROOM]) -> io::Result<()>
     requires { length log.now ≤ 65536 }
 {
     let n = write_text(log, &mut *text);
-    print(&*text, n);
+    print(rt, &*text, n)
 }
 
-fn main() {
-    let mut input = io::large_buffer();
-    let n = io::read_full(STDIN_FILENO, &mut input);
+fn main(rt: HostRuntime) -> io::Result<()> {
+    let mut input = Vec::new(rt.alloc());
+    rt.stdin().take(MOST_BYTES as u64).read_to_end(&mut input)?;
+    let n = input.len().min(MOST_BYTES);
     let mut text = text_buffer();
-    report(&input[..n], &mut text);
+    report(&rt, &input[..n], &mut text)
 }
