@@ -1,6 +1,6 @@
 /*
  * Zintukor: licence and feature decisions over groups that keep splitting.
- * C declarations of libzintukor.a, which `rt staticlib zintukor` builds for x86-64 Linux.
+ * C declarations of libzintukor.a, which `sh tools/library` builds for x86-64 Linux.
  *
  * Every call answers one number, kind * 4294967296 + value: take it apart with
  * ZINTUKOR_KIND and ZINTUKOR_VALUE. Every call is proved to answer or refuse on any
