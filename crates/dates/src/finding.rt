@@ -7,7 +7,7 @@ ghost use Rattle.dates.specs.Inside.Found.{InYear, date_says};
 use crate::years::{YEARS, first_day};
 
 // A date of the calendar.
-#[derive(Drop)]
+#[derive(Clone, Copy)]
 pub(crate) struct Date {
     pub year: u32,
     pub month: u32,

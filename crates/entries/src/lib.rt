@@ -10,7 +10,7 @@ use number::Drawn;
 use rules::Refusal;
 
 // An entry as it is read.
-#[derive(Drop)]
+#[derive(Clone, Copy)]
 pub enum EntryDrawn {
     // Id, quota, number of children, and the position after them.
     Entry(u32, u32, u32, usize),

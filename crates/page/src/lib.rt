@@ -16,7 +16,7 @@ use number::Written;
 use rules::Refusal;
 
 // What the first reading gives.
-#[derive(Drop)]
+#[derive(Clone, Copy)]
 enum LineCount {
     Lines(usize),
     Refused(Refusal),

@@ -55,7 +55,7 @@ refusals! {
     QuotaSum = 23, "the entries' quotas don't add up to the quota of the group to break up";
     RowsFull = 24, "the columns have too few rows for the new groups";
     IdTwice = 26, "a new group's id comes twice in the request";
-    BufferShort = 30, "the buffer is too short for the stored table, the page or the small requests";
+    BufferShort = 30, "the buffer is too short for the stored table or the page";
     Undated = 31, "a grant's first or last day has no date: it is above 36525";
 }
 

@@ -21,8 +21,7 @@ fn each_refusal_has_its_number_and_its_text() {
     let texts: HashSet<&str> = Refusal::ALL.iter().map(|refusal| refusal.text()).collect();
     assert_eq!(texts.len(), numbers.len());
     let error: Box<dyn Error> = Refusal::BufferShort.into();
-    let text = "the buffer is too short for the stored table, the page or the small requests";
-    assert_eq!(error.to_string(), format!("refused (30): {text}"));
+    assert_eq!(error.to_string(), "refused (30): the buffer is too short for the stored table or the page");
 }
 
 #[test]

@@ -1,6 +1,7 @@
 -- `fresh::fresh` meets its contract: every check comes before the first store.
-use Rattle.std.proofs.Common.{sym, ◌∙◌, arith}
+use Rattle.std.proofs.Common.{◌≡◌, true, sym, ◌∙◌, arith}
 use Rattle.table.specs.Columns.{columns}
+use Rattle.table.specs.Check.{lengths_bad}
 use Rattle.table.proofs.Lengths.{lengths_good, holds_count}
 use Rattle.table.proofs.Rows.{put_one}
 use Rattle.fresh.specs.Fresh.{fresh_rows}
@@ -8,7 +9,8 @@ use Rattle.fresh.proofs.fresh.Goals as goal
 
 pub returns-then-lengths_bad-clause-result_value : goal.returns-then-lengths_bad-clause-result_value
 unfolding fresh_rows
-returns-then-lengths_bad-clause-result_value c = rw (sym c.lengths_bad.ensures ∙ c.if-lengths_bad.true)
+returns-then-lengths_bad-clause-result_value c =
+    let e : lengths_bad (columns c.args.id.now c.args.l.now c.args.r.now c.args.q.now) ≡ true = sym c.lengths_bad.ensures ∙ c.if-lengths_bad.true in rw e
 
 pub returns-then-lengths_bad-clause-q_value : goal.returns-then-lengths_bad-clause-q_value
 unfolding fresh_rows

@@ -1,6 +1,9 @@
 -- `load::read_rows` meets its contract: the columns' lengths, the count, then the rows.
-use mathlib.Core.Path.{sym, ◌∙◌}
+use mathlib.Core.Bool.{true}
+use mathlib.Core.Path.{◌≡◌, sym, ◌∙◌}
 use native.Mathlib.Omega.{arith}
+use lib.ListN.{length}
+use Rattle.table.specs.Check.{count_bad}
 use Rattle.table.proofs.Lengths.{lengths_good, count_good}
 use Rattle.stored.specs.Stored.{read_rows}
 use Rattle.load.proofs.read_rows.Goals as goal
@@ -12,7 +15,8 @@ returns-then-lengths_bad c = rw (sym c.lengths_bad.ensures ∙ c.if-lengths_bad.
 pub returns-then-count_bad : goal.returns-then-count_bad
 unfolding read_rows
 returns-then-count_bad c =
-    rw (sym c.lengths_bad.ensures ∙ c.if-lengths_bad.false, ← c.number_at.ensures, c.in-Number.is, sym c.count_bad.ensures ∙ c.if-count_bad.true)
+    let e : count_bad (length c.args.id.now) c.in-Number.value ≡ true = sym c.count_bad.ensures ∙ c.if-count_bad.true in
+    rw (sym c.lengths_bad.ensures ∙ c.if-lengths_bad.false, ← c.number_at.ensures, c.in-Number.is, e)
 
 pub rows_to_end-requires : goal.rows_to_end-requires
 unfolding read_rows

@@ -1,5 +1,8 @@
 -- `order::order` meets its contract: the check, 20 for either id, then the comparison of the two rows.
-use Rattle.std.proofs.Common.{arith}
+use Rattle.std.proofs.Common.{◌≡◌, arith}
+use Rattle.rules.specs.Answers.{refused}
+use Rattle.rules.specs.Refusals.{refusal_number}
+use Rattle.table.specs.Check.{checked}
 use Rattle.table.specs.Columns.{columns}
 use Rattle.table.proofs.Passing.{sound, unsound}
 use Rattle.order.specs.Order.{order}
@@ -8,7 +11,10 @@ use Rattle.order.proofs.order.Goals as goal
 
 pub returns-in-Refused : goal.returns-in-Refused
 unfolding order
-returns-in-Refused c = rw (unsound _ _ c.check_columns.ensures c.in-Refused.is)
+returns-in-Refused c =
+    let e : checked (columns c.args.id.now c.args.l.now c.args.r.now c.args.q.now) c.args.count ≡ refused (refusal_number c.in-Refused.why) =
+    unsound _ _ c.check_columns.ensures c.in-Refused.is in
+    rw e
 
 pub returns-then-i-count : goal.returns-then-i-count
 unfolding order

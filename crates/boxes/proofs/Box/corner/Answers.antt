@@ -2,7 +2,7 @@ use Rattle.boxes.proofs.Cuts.{corner_none, corner_whole, corner_low, corner_high
 use Rattle.boxes.proofs.Box.corner.Goals as goal
 
 pub returns-then-self-own : goal.returns-then-self-own
-returns-then-self-own c = corner_none c.args.self c.args.own _ (rw (← c.passes.ensures, ← c.passes-2.ensures) c.if-self-own.true)
+returns-then-self-own c = corner_none c.args.self c.args.own _ (rw (c.passes.ensures, c.passes-2.ensures) at c.if-self-own.true)
 
 pub returns-then-upright : goal.returns-then-upright
 returns-then-upright c =

@@ -1,5 +1,5 @@
 use Rattle.std.proofs.Math.Seq.{set_out}
-use Rattle.std.proofs.Common.{le-leb}
+use Rattle.std.proofs.Common.{◌≤◌, length, arith, le-leb}
 use borrow.Author.Tests.{lt-leb}
 use Rattle.rules.specs.Limits.{greatest}
 use Rattle.coordinates.specs.Coordinates.{column_with}
@@ -11,7 +11,9 @@ returns-then-i-column c = rw (le-leb c.args.n greatest c.if-n.true)
 
 pub returns-else-i-column : goal.returns-else-i-column
 unfolding column_with
-returns-else-i-column c = rw (le-leb c.args.n greatest c.if-n.true, set_out _ _ _ c.if-i-column.false)
+returns-else-i-column c =
+    let past : length c.args.column.now ≤ c.args.i = omega arith in
+    rw (le-leb c.args.n greatest c.if-n.true, set_out _ _ _ past)
 
 pub returns-else-n : goal.returns-else-n
 unfolding column_with

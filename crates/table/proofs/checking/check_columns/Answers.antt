@@ -1,6 +1,6 @@
 -- `table::checking::check_columns` meets its contract: 10 for the lengths and the count, then the rows.
-use Rattle.std.proofs.Common.{sym, ◌∙◌, arith}
-use Rattle.table.specs.Check.{checked}
+use Rattle.std.proofs.Common.{◌≡◌, true, length, sym, ◌∙◌, arith}
+use Rattle.table.specs.Check.{count_bad, checked}
 use Rattle.table.proofs.Lengths.{lengths_good, count_good, holds_count}
 use Rattle.table.proofs.checking.check_columns.Goals as goal
 
@@ -10,7 +10,9 @@ returns-then-lengths_bad c = rw (sym c.lengths_bad.ensures ∙ c.if-lengths_bad.
 
 pub returns-then-count_bad : goal.returns-then-count_bad
 unfolding checked
-returns-then-count_bad c = rw (sym c.lengths_bad.ensures ∙ c.if-lengths_bad.false, sym c.count_bad.ensures ∙ c.if-count_bad.true)
+returns-then-count_bad c =
+    let e : count_bad (length c.args.id.now) c.args.count ≡ true = sym c.count_bad.ensures ∙ c.if-count_bad.true in
+    rw (sym c.lengths_bad.ensures ∙ c.if-lengths_bad.false, e)
 
 pub check_rows-requires : goal.check_rows-requires
 check_rows-requires c =
