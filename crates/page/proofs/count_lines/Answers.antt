@@ -1,4 +1,6 @@
-use mathlib.Core.Path.{ap, sym, ◌∙◌}
+use borrow.Author.Rules.{rules}
+use mathlib.Core.Bool.{false}
+use mathlib.Core.Path.{◌≡◌, ap, sym, ◌∙◌}
 use native.Mathlib.Omega.{arith}
 use Rattle.grant.specs.Says.{grant_says}
 use Rattle.grant.proofs.Listing.{grant_stands}
@@ -30,7 +32,8 @@ pub loop-at-preserved-then-applies : goal.loop-at-preserved-then-applies
 loop-at-preserved-then-applies c =
     let e = sym c.grant_at.ensures ∙ ap grant_says c.in-Grant.is in
     let y = sym (rw (c.new.ensures, c.new-in-Grant.ensures) at c.covers-applies.ensures) ∙ c.if-applies.true in
-    let d = sym (dated_given _ _ e (sym c.undated.ensures ∙ c.if-undated.false)) in
+    let no : c.undated.result ≡ false = search rules in
+    let d = sym (dated_given _ _ e (sym c.undated.ensures ∙ no)) in
     let s = grant_stands _ _ e in
     (s.ends, omega (arith, s.starts, c.loop-at.invariant.1), sym (lines_applies _ _ _ c.loop-at.at c.loop-at.lines c.loop-at-test.true d y) ∙ c.loop-at.invariant.2)
 
@@ -43,7 +46,8 @@ pub loop-at-preserved : goal.loop-at-preserved
 loop-at-preserved c =
     let e = sym c.grant_at.ensures ∙ ap grant_says c.in-Grant.is in
     let n = sym (rw (c.new.ensures, c.new-in-Grant.ensures) at c.covers-applies.ensures) ∙ c.if-applies.false in
-    let d = sym (dated_given _ _ e (sym c.undated.ensures ∙ c.if-undated.false)) in
+    let no : c.undated.result ≡ false = search rules in
+    let d = sym (dated_given _ _ e (sym c.undated.ensures ∙ no)) in
     let s = grant_stands _ _ e in
     (s.ends, omega (arith, s.starts, c.loop-at.invariant.1), sym (lines_other _ _ _ c.loop-at.at c.loop-at.lines c.loop-at-test.true d n) ∙ c.loop-at.invariant.2)
 
