@@ -12,7 +12,8 @@ use Rattle.rules.specs.Limits.{greatest}
 use Rattle.rules.specs.Buffers.{Bytes}
 use Rattle.rules.proofs.Cases.{by_lt, by_eq}
 use Rattle.rules.proofs.Answers.{same_answer, never_refused}
-use Rattle.number.specs.Number.{Number, found, last_byte, followed, bit_groups_at, number_at, bit_groups_of, bytes_of}
+use Rattle.number.specs.declared.Number.{Number}
+use Rattle.number.specs.Number.{found, last_byte, followed, bit_groups_at, number_at, bit_groups_of, bytes_of}
 use Rattle.number.proofs.Groups.{short, last, more, fifth, fifth_above, last_only, last_zero, last_positive, followed_found, followed_refused, one_group, more_groups, last_groups, cap, cap_pos}
 
 -- ## Writing, then reading

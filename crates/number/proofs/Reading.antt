@@ -7,7 +7,8 @@ use native.Mathlib.Nat.{mul-add, mul_assoc, mul_comm, mul-le-mul_right}
 use native.Mathlib.Omega.{arith}
 use lib.ListN.{length, get_or}
 use Rattle.rules.specs.Answers.{Answer, answer, refused}
-use Rattle.number.specs.Number.{Number, found, last_byte, added_to, followed, bit_groups_at}
+use Rattle.number.specs.declared.Number.{Number}
+use Rattle.number.specs.Number.{found, last_byte, added_to, followed, bit_groups_at}
 use Rattle.number.proofs.Groups.{short, last, more, fifth, fifth_above, last_zero, last_positive}
 
 -- what a group counts for that k others may follow
@@ -39,6 +40,7 @@ added_to_followed low unit b (answer r) h l =
 pub record Later (bytes : List ℕ) (at low i unit sum : ℕ) : Type 0 where
   pub more : ℕ
   pub most : more ≤ 3
+  pub place : i + more ≡ at + 3
   pub counts : unit ≡ unit_of more
   pub small : sum < unit
   pub whole : added_to sum unit (bit_groups_at more false bytes i) ≡ added_to low 128 (bit_groups_at 3 false bytes at)
@@ -50,21 +52,15 @@ record Inner (more unit : ℕ) : Type 0 where
   counts : unit * 128 ≡ unit_of rest
   low : unit ≤ 2097152
 
-inner : (more unit : ℕ) → more ≤ 3 → unit ≡ unit_of more → unit < 268435456 → Inner more unit
+inner : (more unit : ℕ) → more ≤ 3 → unit ≡ unit_of more → 1 ≤ more → Inner more unit
 inner zero unit m e h = absurd (omega arith)
 inner (suc zero) unit m e h = record { rest = 0; one_more = refl; counts = omega arith; low = omega arith }
 inner (suc (suc zero)) unit m e h = record { rest = 1; one_more = refl; counts = omega arith; low = omega arith }
 inner (suc (suc (suc zero))) unit m e h = record { rest = 2; one_more = refl; counts = omega arith; low = omega arith }
 inner (suc (suc (suc (suc k)))) unit m e h = absurd (omega arith)
 
-outer : (more unit : ℕ) → more ≤ 3 → unit ≡ unit_of more → 268435456 ≤ unit → more ≡ 0
-outer zero unit m e h = refl
-outer (suc zero) unit m e h = omega arith
-outer (suc (suc zero)) unit m e h = omega arith
-outer (suc (suc (suc k))) unit m e h = omega arith
-
 pub begins : {bytes : List ℕ} {at low : ℕ} → low < 128 → Later bytes at low at 128 low
-begins h = record { more = 3; most = omega arith; counts = refl; small = h; whole = refl }
+begins h = record { more = 3; most = omega arith; place = refl; counts = refl; small = h; whole = refl }
 
 -- a group's worth, with those below it, and that of the next group
 abbrev pub Worth : ℕ → ℕ → ℕ → Type 0
@@ -75,9 +71,9 @@ worth {b} {unit} h s l =
     let p : b * unit ≤ 127 * unit = mul-le-mul_right unit (omega arith) in
     (omega arith, omega arith, omega arith)
 
-module _ {bytes : List ℕ} {at low i unit sum : ℕ} (l : Later bytes at low i unit sum) (h : unit < 268435456) where
+module _ {bytes : List ℕ} {at low i unit sum : ℕ} (l : Later bytes at low i unit sum) (h : i < at + 3) where
   inside : Inner l.more unit
-  inside = inner l.more unit l.most l.counts h
+  inside = inner l.more unit l.most l.counts (omega (arith, l.place))
 
   pub unit_low : unit ≤ 2097152
   unit_low = inside.low
@@ -108,15 +104,16 @@ module _ {bytes : List ℕ} {at low i unit sum : ℕ} (l : Later bytes at low i 
       record {
         more = inside.rest;
         most = omega arith;
+        place = omega (arith, l.place);
         counts = inside.counts;
         small = w.1;
         whole = sym (added_to_followed sum unit (get_or bytes i 0) (bit_groups_at inside.rest false bytes (i + 1)) b f)
             ∙ sym (ap (added_to sum unit) (more bytes i inside.rest false n b)) ∙ whole_inside;
       }
 
-module _ {bytes : List ℕ} {at low i unit sum : ℕ} (l : Later bytes at low i unit sum) (h : 268435456 ≤ unit) where
+module _ {bytes : List ℕ} {at low unit sum : ℕ} (l : Later bytes at low (at + 3) unit sum) where
   at_fifth : l.more ≡ 0
-  at_fifth = outer l.more unit l.most l.counts h
+  at_fifth = omega (arith, l.place)
 
   unit_fifth : unit ≡ 268435456
   unit_fifth = l.counts ∙ ap unit_of at_fifth
@@ -124,7 +121,7 @@ module _ {bytes : List ℕ} {at low i unit sum : ℕ} (l : Later bytes at low i 
   pub fifth_small : sum < 268435456
   fifth_small = omega (arith, l.small, unit_fifth)
 
-  pub fifth_whole : added_to sum 268435456 (bit_groups_at 0 false bytes i) ≡ added_to low 128 (bit_groups_at 3 false bytes at)
+  pub fifth_whole : added_to sum 268435456 (bit_groups_at 0 false bytes (at + 3)) ≡ added_to low 128 (bit_groups_at 3 false bytes at)
   fifth_whole = rw (unit_fifth, at_fifth) at l.whole
 
 module _ (bytes : List ℕ) (at low : ℕ) where

@@ -1,5 +1,5 @@
 -- The bytes of a number, written one after another: what is left to write, from here on, still makes the whole buffer.
-use mathlib.Core.Path.{◌≡◌, refl, sym, ◌∙◌}
+use mathlib.Core.Path.{◌≡◌, refl, ap, sym, ◌∙◌}
 use mathlib.Core.List.{List}
 use Prim.Native.Nat.{ℕ, zero, suc, ◌+◌, ◌/◌, ◌%◌, ◌<◌, ◌≤◌}
 use native.Mathlib.Omega.{arith}
@@ -7,6 +7,7 @@ use native.Mathlib.Numerals.{add-one}
 use lib.ListN.{length, set, length-set}
 use lib.Seq.{sets}
 use Rattle.rules.specs.Buffers.{after}
+use Rattle.rules.proofs.Cases.{by_lt}
 use Rattle.rules.proofs.Buffers.{after_all}
 use Rattle.number.specs.Number.{bit_groups_of, bytes_of}
 use Rattle.number.proofs.Groups.{one_group, more_groups, cap}
@@ -29,6 +30,23 @@ module _ {buffer₀ : List ℕ} {at value : ℕ} where
   -- there is a place to write to
   pub inside : {buffer : List ℕ} {i left : ℕ} → Writes buffer₀ at value buffer i left → i < length buffer
   inside {left = left} w = omega (arith, groups_count w.more left)
+
+  -- another byte follows where the groups don't end there; at the last place one group is left
+  pub another : {buffer : List ℕ} {i left : ℕ} → Writes buffer₀ at value buffer i left → i + 1 < at + length (bytes_of value) → 128 ≤ left
+  another {i = i} {left = left} w h =
+      by_lt left 128
+      (λ l. let one = ap length (one_group w.more left l) in absurd (omega (arith, w.stop)))
+      (λ l. l)
+
+  pub no_other : {buffer : List ℕ} {i left : ℕ} → Writes buffer₀ at value buffer i left → i + 1 ≡ at + length (bytes_of value) → left < 128
+  no_other {left = left} w h =
+      by_lt left 128
+      (λ l. l)
+      (λ l. absurd (two w.more w.small l (omega (arith, w.stop))))
+    where
+      two : (k : ℕ) → left < cap k → 128 ≤ left → length (bit_groups_of k left) ≡ 1 → ⊥
+      two zero s l e = omega arith
+      two (suc k) s l e = let n = ap length (more_groups k left l) in omega (arith, groups_count k (left / 128))
 
   goes : (buffer : List ℕ) (i left k : ℕ) → left < cap k → length buffer ≡ length buffer₀ → i + length (bit_groups_of k left) ≡ at + length (bytes_of value)
       → at + length (bytes_of value) ≤ length buffer₀ → sets buffer i (bit_groups_of k left) ≡ sets buffer₀ at (bytes_of value) → 128 ≤ left

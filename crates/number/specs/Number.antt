@@ -1,12 +1,9 @@
 -- Stored numbers (RULES.md, 2): groups of seven bits, lowest group first; the top bit of a byte is set when another byte follows.
 use Rattle.std.specs.Prelude.{ℕ, zero, suc, ◌+◌, ◌*◌, ◌/◌, ◌%◌, Bool, true, false, cond, not, ◌&&◌, List, [], ◌∷◌, eqb, leb, ltb, length, get_or}
 use Rattle.rules.specs.Answers.{Answer, answer, refused, then}
+use Rattle.number.specs.declared.Number.{Number}
 
 -- a number that stands in bytes: its value, and the position after its last byte
-pub record Number : Type 0 where
-  pub value : ℕ
-  pub next : ℕ
-
 abbrev pub found : ℕ → ℕ → Answer Number
 found value next = answer (record { value = value; next = next })
 

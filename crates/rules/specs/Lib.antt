@@ -4,3 +4,4 @@ pub mod Answers
 pub mod Refusals
 pub mod Buffers
 pub mod Pick
+pub mod Says
