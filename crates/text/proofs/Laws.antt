@@ -1,8 +1,9 @@
 -- The digits of a number: one, or those of its tenth and one more. A decimal number has 1 to 10 bytes. The test of the room.
 use mathlib.Core.Path.{◌≡◌, refl, ap, sym, ◌∙◌}
 use mathlib.Core.List.{[], ◌∷◌, ◌++◌}
-use Prim.Native.Nat.{ℕ, zero, suc, ◌+◌, ◌*◌, ◌-◌, ◌/◌, ◌%◌, ◌<◌, ◌≤◌}
+use Prim.Native.Nat.{ℕ, zero, suc, ◌+◌, ◌*◌, ◌^◌, ◌-◌, ◌/◌, ◌%◌, ◌<◌, ◌≤◌, max}
 use native.Mathlib.Omega.{arith}
+use native.Mathlib.Nat.{pow-succ'}
 use lib.Dec.{ltb}
 use lib.ListN.{length, length-append}
 use borrow.Author.Tests.{lt-ltb, le-ltb}
@@ -36,6 +37,26 @@ digits_count (suc k) n =
     by_lt n 10
     (λ h. rw (one_digit (suc k) n h) (omega arith))
     (λ h. omega (arith, more_count k n h, digits_count k (n / 10)))
+
+power_some : (e : ℕ) → 1 ≤ 10 ^ e
+power_some zero = omega arith
+power_some (suc e) = omega (arith, pow-succ' 10 e, power_some e)
+
+-- as many as the greatest power of ten that is not above the number
+digits_power : (k e n : ℕ) → e ≤ k → 10 ^ e ≤ n → n < 10 * 10 ^ e → length (digits k n) ≡ e + 1
+digits_power k zero n l a b = rw (one_digit k n (omega arith)) (omega arith)
+digits_power zero (suc e) n l a b = absurd (omega arith)
+digits_power (suc k) (suc e) n l a b =
+    let p = pow-succ' 10 e in
+    let q = power_some e in
+    omega (arith, more_count k n (omega arith), digits_power k e (n / 10) (omega arith) (omega arith) (omega arith))
+
+pub decimal_power : (n e m : ℕ) → m ≡ max n 1 → 10 ^ e ≤ m → m < 10 * 10 ^ e → e < 10 → e + 1 ≡ length (decimal n)
+unfolding decimal
+decimal_power zero e m k a b l = let u : length (digits 9 1) ≡ 1 = ap length (one_digit 9 1 (omega arith)) in
+    let z : length (digits 9 0) ≡ 1 = ap length (one_digit 9 0 (omega arith)) in
+    omega (arith, digits_power 9 e 1 (omega arith) (omega arith) (omega arith))
+decimal_power (suc n) e m k a b l = omega (arith, digits_power 9 e (suc n) (omega arith) (omega arith) (omega arith))
 
 -- 1 to 10 bytes
 pub decimal_count : (n : ℕ) → (1 ≤ length (decimal n)) × (length (decimal n) ≤ 10)

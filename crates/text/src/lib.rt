@@ -3,13 +3,13 @@
 
 ghost use Rattle.std.specs.Prelude.{◌≡◌, ◌+◌, ltb, length};
 ghost use Rattle.rules.specs.Buffers.{written, after};
-ghost use Rattle.number.specs.Says.{written_says};
+ghost use Rattle.rules.specs.Says.{says};
 ghost use Rattle.text.specs.Decimal.{decimal};
 
-use number::Written;
 use rules::Refusal;
 
 // A buffer of this length is too short for so many bytes from a position on.
+#[tactic(auto, using(crate::proofs::Laws::short_same))]
 pub fn too_short(length: usize, at: usize, bytes: usize) -> bool
     ensures { result ≡ ltb length (at + bytes) }
 {
@@ -20,50 +20,40 @@ pub fn too_short(length: usize, at: usize, bytes: usize) -> bool
 }
 
 // How many digits a number has, 1 to 10.
+#[tactic(auto, using(crate::proofs::Laws::decimal_power))]
 pub fn decimal_length(n: u32) -> usize
     ensures { result ≡ length (decimal n) }
 {
-    let mut count = 1;
-    let mut left = n;
-    while 10 <= left {
-        left = left / 10;
-        count += 1;
-    }
-    count
+    n.max(1).ilog10() as usize + 1
 }
 
 // Writes a number's digits from a position on: 30, and none of them, where the buffer is too short.
-pub fn write_decimal(buffer: &mut [u8], at: usize, n: u32) -> Written
-    ensures result_value { written_says result ≡ written buffer.old at (decimal n) }
+#[tactic(auto, using(crate::proofs::Writing::no_room_answer, crate::proofs::Writing::no_room_buffer, crate::proofs::Writing::room_answer))]
+pub fn write_decimal(buffer: &mut [u8], at: usize, n: u32) -> Result<usize, Refusal>
+    ensures result_value { says result ≡ written buffer.old at (decimal n) }
     ensures buffer_value { buffer.new ≡ after buffer.old at (decimal n) }
 {
     let count = decimal_length(n);
     if too_short(buffer.len(), at, count) {
-        return Written::Refused(Refusal::BufferShort);
+        return Err(Refusal::BufferShort);
     }
-    let mut i = at + (count - 1);
     let mut left = n;
-    while 10 <= left {
+    for i in (at..at + count).rev() {
         buffer[i] = (left % 10 + 48) as u8;
-        left = left / 10;
-        i -= 1;
+        left /= 10;
     }
-    buffer[i] = (left + 48) as u8;
-    Written::Bytes(count)
+    Ok(count)
 }
 
 // Writes given bytes from a position on: 30, and none of them, where the buffer is too short.
-pub fn write_bytes(buffer: &mut [u8], at: usize, bytes: &[u8]) -> Written
-    ensures result_value { written_says result ≡ written buffer.old at bytes.now }
+#[tactic(auto, using(crate::proofs::Writing::no_room_answer, crate::proofs::Writing::no_room_buffer, crate::proofs::Writing::room_answer, crate::proofs::Writing::copied))]
+pub fn write_bytes(buffer: &mut [u8], at: usize, bytes: &[u8]) -> Result<usize, Refusal>
+    ensures result_value { says result ≡ written buffer.old at bytes.now }
     ensures buffer_value { buffer.new ≡ after buffer.old at bytes.now }
 {
     if too_short(buffer.len(), at, bytes.len()) {
-        return Written::Refused(Refusal::BufferShort);
+        return Err(Refusal::BufferShort);
     }
-    let mut i = 0;
-    while i < bytes.len() {
-        buffer[at + i] = bytes[i];
-        i += 1;
-    }
-    Written::Bytes(bytes.len())
+    buffer[at..at + bytes.len()].copy_from_slice(bytes);
+    Ok(bytes.len())
 }
