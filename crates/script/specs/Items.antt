@@ -1,48 +1,68 @@
 -- The items of a script's line: its words, and the numbers that its tokens stand for.
-use Rattle.std.specs.Prelude.{ℕ, zero, suc, ◌+◌, ◌-◌, ◌%◌, ◌^◌, cond, List, length, ◌==◌, nat_le, nat_lt}
-use Rattle.script.specs.Words.{token_at}
+use Rattle.std.specs.Prelude.{ℕ, zero, suc, ◌+◌, ◌-◌, ◌%◌, ◌^◌, cond, List, [], ◌∷◌, ◌==◌, nat_le, nat_lt, Option, None}
+use Rattle.script.specs.Words.{tokens_of, tokens_left}
+use Rattle.script.specs.declared.Run.{Run}
+use Rattle.script.specs.declared.Run.TheVariants.{One, To, Times}
+use Rattle.script.specs.declared.Numeral.{Numeral}
 use Rattle.script.specs.declared.Token.{Token}
+use Rattle.script.specs.declared.Token.TheVariants.{Letters, Digits}
+use Rattle.script.specs.declared.Member.{Member}
 use Rattle.script.specs.declared.Item.{Item}
-
--- before the first item of a line
-abbrev pub first_item : Item
-first_item = record { word = 1; section = 1; value = 0; byte = 0; left = 0; step = 0; next = 0 }
-
--- a number of a token, after which so many more stand, each with a step more
-abbrev pub number_of : Token → ℕ → ℕ → ℕ → ℕ → Item
-number_of t section value left step = record { word = 0; section = section; value = value; byte = t.byte; left = left; step = step; next = t.next }
+use Rattle.script.specs.declared.Item.TheVariants.{Word, Number}
+use Rattle.script.specs.declared.Items.{Items}
 
 -- the first number that a token stands for: of `a-b`, up or down; of `a*n`; or of itself
-unfoldable pub token_numbers : Token → ℕ → Item
-token_numbers t section =
-    cond (t.sign == 45)
-    (cond (nat_le t.first t.value) (number_of t section t.first (t.value - t.first) 1) (number_of t section t.first (t.first - t.value) 18446744073709551615))
-    (cond (t.sign == 42)
-    (cond (nat_lt t.value 1) (number_of t section 0 0 0) (number_of t section t.first (t.value - 1) 0))
-    (number_of t section t.value 0 0))
+abbrev pub member_of : ℕ → ℕ → ℕ → ℕ → Member
+member_of value byte left step = record { value = value; byte = byte; left = left; step = step }
 
--- a word, which numbers may follow; 2 after the last
-abbrev pub word_of : ℕ → Token → Item
-word_of word t = record { word = word; section = t.word; value = 0; byte = 0; left = 0; step = 0; next = t.next }
+abbrev pub member_in : Run → ℕ → ℕ → Member
+member_in One b byte = member_of b byte 0 0
+member_in (To a) b byte = cond (nat_le a b) (member_of a byte (b - a) 1) (member_of a byte (a - b) 18446744073709551615)
+member_in (Times a) b byte = cond (nat_lt b 1) (member_of 0 byte 0 0) (member_of a byte (b - 1) 0)
 
-abbrev pub next_number : Item → Item
-next_number x =
-    record { word = x.word; section = x.section; value = (x.value + x.step) % 2 ^ 64; byte = x.byte; left = x.left - 1; step = x.step; next = x.next }
+unfoldable pub first_member : Numeral → Member
+first_member n = member_in n.run n.value n.byte
 
--- the item after one
-unfoldable pub item_after : List ℕ → Item → Item
-item_after line x =
-    cond (nat_lt 0 x.left)
-    (next_number x)
-    (let t = token_at line x.next in
-    cond (t.word == 0) (token_numbers t x.section) (word_of (cond (nat_lt x.next (length line)) t.word 2) t))
+-- and the one after a number
+abbrev pub member_after : Member → Member
+member_after m = record { value = (m.value + m.step) % 2 ^ 64; byte = m.byte; left = m.left - 1; step = m.step }
 
--- the number with so many numbers before it from a position on, within so many tokens; 0 where there is none
-unfoldable pub given_from : ℕ → List ℕ → ℕ → ℕ → ℕ
-given_from zero line before at = 0
-given_from (suc k) line before at =
-    let t = token_at line at in
-    cond (t.word == 0) (cond (before == 0) t.value (given_from k line (before - 1) t.next)) (given_from k line before t.next)
+abbrev pub number_of : Option ℕ → Member → Item
+number_of section m = Number section m.value m.byte
 
-unfoldable pub given_of : List ℕ → ℕ → ℕ
-given_of line before = given_from (length line) line before 0
+-- the items after a number or a word, so many at most, until the line ends
+unfoldable pub items_from : ℕ → Option ℕ → Member → List Token → List Item
+items_from zero section m tokens = []
+items_from (suc k) section m [] = cond (nat_lt 0 m.left) (number_of section (member_after m) ∷ items_from k section (member_after m) []) []
+items_from (suc k) section m (Digits n ∷ tokens) =
+    cond (nat_lt 0 m.left)
+    (number_of section (member_after m) ∷ items_from k section (member_after m) (Digits n ∷ tokens))
+    (number_of section (first_member n) ∷ items_from k section (first_member n) tokens)
+items_from (suc k) section m (Letters word ∷ tokens) =
+    cond (nat_lt 0 m.left)
+    (number_of section (member_after m) ∷ items_from k section (member_after m) (Letters word ∷ tokens))
+    (Word word ∷ items_from k word m tokens)
+
+abbrev pub items_left : Items → List Item
+items_left s = items_from s.turns s.section s.member (tokens_left s.tokens)
+
+abbrev pub items_of : List ℕ → List Item
+items_of line = items_from 131072 None (member_of 0 0 0 0) (tokens_of line)
+
+-- the letter of the word that a line begins with
+abbrev pub word_first : List Token → Option ℕ
+word_first [] = None
+word_first (Letters word ∷ tokens) = word
+word_first (Digits n ∷ tokens) = None
+
+abbrev pub command_of : List ℕ → Option ℕ
+command_of line = word_first (tokens_of line)
+
+-- the number with so many numbers before it; 0 where there is none
+unfoldable pub given_from : List Token → ℕ → ℕ
+given_from [] before = 0
+given_from (Letters word ∷ tokens) before = given_from tokens before
+given_from (Digits n ∷ tokens) before = cond (before == 0) n.value (given_from tokens (before - 1))
+
+abbrev pub given_of : List ℕ → ℕ → ℕ
+given_of line before = given_from (tokens_of line) before

@@ -1,35 +1,56 @@
--- The words and numbers of a script's line, with one space between them: the token at a position.
-use Rattle.std.specs.Prelude.{ℕ, ◌+◌, ◌-◌, ◌*◌, ◌%◌, ◌^◌, cond, List, [], ◌∷◌, length, drop, ◌==◌, nat_le, nat_lt}
+-- The words and numbers of a script's line, with one space between them: its tokens.
+use Rattle.std.specs.Prelude.{ℕ, ◌+◌, ◌-◌, ◌*◌, ◌%◌, ◌^◌, cond, List, [], ◌∷◌, ◌==◌, nat_le, Option, None, Some}
+use Rattle.script.specs.declared.Run.{Run}
+use Rattle.script.specs.declared.Run.TheVariants.{One, To, Times}
+use Rattle.script.specs.declared.Numeral.{Numeral}
 use Rattle.script.specs.declared.Token.{Token}
+use Rattle.script.specs.declared.Token.TheVariants.{Letters, Digits}
+use Rattle.script.specs.declared.Tokens.{Tokens}
 
--- the value of a digit, 0 to 9 and A to F; 16 for any other byte
-unfoldable pub digit_of : ℕ → ℕ
-digit_of c = cond (nat_lt c 48) 16 (cond (nat_le c 57) (c - 48) (cond (nat_lt c 65) 16 (cond (nat_le c 70) (c - 65 + 10) 16)))
+-- the value of a digit, 0 to 9 and A to F
+unfoldable pub digit_of : ℕ → Option ℕ
+digit_of c = cond (nat_le 48 c) (cond (nat_le c 57) (Some (c - 48)) (cond (nat_le 65 c) (cond (nat_le c 70) (Some (c - 65 + 10)) None) None)) None
 
 -- a number with a digit more, in 64 bits; a longer one stays as it is
 unfoldable pub longer : ℕ → ℕ → ℕ
 longer n d = cond (nat_le n 1844674407370955161) ((n * 10 + d) % 2 ^ 64) n
 
--- before a token's first byte
-abbrev pub no_token : ℕ → Token
-no_token next = record { word = 1; value = 0; byte = 0; sign = 0; first = 0; next = next }
+abbrev pub numeral_with : Numeral → ℕ → Numeral
+numeral_with n d = record { run = n.run; value = longer n.value d; byte = n.byte % 16 * 16 + d }
+
+-- by the sign after a number: `-` or `*`
+unfoldable pub run_at : ℕ → ℕ → Run
+run_at c first = cond (c == 45) (To first) (cond (c == 42) (Times first) One)
 
 -- a token with a byte more: a digit, the sign after a number, or the first letter of a word
+abbrev pub more_digits : Token → ℕ → Token
+more_digits (Digits n) d = Digits (numeral_with n d)
+more_digits (Letters word) d = Digits (record { run = One; value = d; byte = d })
+
+abbrev pub more_letters : Token → ℕ → Token
+more_letters (Digits n) c = Digits (record { run = run_at c n.value; value = 0; byte = n.byte })
+more_letters (Letters None) c = Letters (Some c)
+more_letters (Letters (Some word)) c = Letters (Some word)
+
+abbrev pub with_digit_or : Token → ℕ → Option ℕ → Token
+with_digit_or t c (Some d) = more_digits t d
+with_digit_or t c None = more_letters t c
+
 unfoldable pub token_with : Token → ℕ → Token
-token_with t c =
-    cond (nat_lt (digit_of c) 16)
-    (record { word = 0; value = longer t.value (digit_of c); byte = t.byte % 16 * 16 + digit_of c; sign = t.sign; first = t.first; next = t.next })
-    (cond (t.word == 0)
-    (record { word = 0; value = 0; byte = t.byte; sign = c; first = t.value; next = t.next })
-    (cond (t.word == 1) (record { word = c; value = t.value; byte = t.byte; sign = t.sign; first = t.first; next = t.next }) t))
+token_with t c = with_digit_or t c (digit_of c)
 
-abbrev pub ended_at : Token → ℕ → Token
-ended_at t n = record { word = t.word; value = t.value; byte = t.byte; sign = t.sign; first = t.first; next = n }
+-- a token as far as it has come, if one has begun, and the bytes that follow: a space ends it
+abbrev pub begun : Option Token → Token
+begun None = Letters None
+begun (Some t) = t
 
--- a token and the bytes from a position on: a space ends it
-unfoldable pub token_from : Token → ℕ → List ℕ → Token
-token_from t at [] = t
-token_from t at (c ∷ bytes) = cond (c == 32) (ended_at t (at + 1)) (token_from (token_with t c) (at + 1) bytes)
+unfoldable pub tokens_from : Option Token → List ℕ → List Token
+tokens_from None [] = []
+tokens_from (Some t) [] = t ∷ []
+tokens_from o (c ∷ bytes) = cond (c == 32) (begun o ∷ tokens_from None bytes) (tokens_from (Some (token_with (begun o) c)) bytes)
 
-unfoldable pub token_at : List ℕ → ℕ → Token
-token_at line at = token_from (no_token (length line)) at (drop at line)
+abbrev pub tokens_of : List ℕ → List Token
+tokens_of line = tokens_from None line
+
+abbrev pub tokens_left : Tokens → List Token
+tokens_left s = tokens_of s.rest.now

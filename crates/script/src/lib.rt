@@ -1,236 +1,273 @@
 // The words and numbers of a script's line, with one space between them.
 #![tactic(auto)]
 
-ghost use Rattle.std.specs.Prelude.{◌≡◌};
-ghost use Rattle.script.specs.Words.{digit_of, longer, token_with, token_at};
-ghost use Rattle.script.specs.Items.{first_item, number_of, token_numbers, item_after, given_of};
+ghost use Rattle.std.specs.Prelude.{◌≡◌, ◌<◌, IfSome};
+ghost use Rattle.std.specs.Iterator.{YieldsFirst, item_count};
+ghost use Rattle.script.specs.Words.{digit_of, longer, numeral_with, run_at, token_with, tokens_of, tokens_left};
+ghost use Rattle.script.specs.Items.{member_after, first_member, items_of, items_left, command_of, given_of};
 
-// A word is known by its first letter. Of a number it is 0, before a token's first byte 1, after the last token 2.
-pub const NUMBER: u8 = 0;
+// Most items of a line.
+const MOST_ITEMS: usize = 131072;
 
-const EMPTY: u8 = 1;
-
-pub const END: u8 = 2;
-
-// A word, or a number: also `a-b`, the numbers from a to b, and `a*n`, n times a.
+// A number: also `a-b`, the numbers from a to b, and `a*n`, n times a.
 #[derive(Clone, Copy)]
-struct Token {
-    word: u8,
-    // A number's value in decimal, and its last two digits as a byte in hexadecimal.
+enum Run {
+    One,
+    To(u64),
+    Times(u64),
+}
+
+// The number before the sign stands in the run; that after it, or alone, is the value in decimal, with the last two digits as a byte in
+// hexadecimal.
+#[derive(Clone, Copy)]
+struct Numeral {
+    run: Run,
     value: u64,
     byte: u8,
-    // `-` or `*`, and the number before it; else 0.
-    sign: u8,
-    first: u64,
-    // Where the next token begins.
-    next: usize,
 }
 
-// A word, or one number of those after it.
+// A word is known by its first letter; where two spaces meet it has none.
 #[derive(Clone, Copy)]
-pub struct Item {
-    pub word: u8,
-    // The word before a number.
-    pub section: u8,
-    pub value: u64,
-    pub byte: u8,
-    // How many more numbers its token stands for, and what is added from one to the next, in 64 bits.
+enum Token {
+    Letters(Option<u8>),
+    Digits(Numeral),
+}
+
+// The tokens of what is left of a line.
+#[derive(Clone, Copy)]
+struct Tokens<'a> {
+    rest: &'a [u8],
+}
+
+// One of the numbers that a token stands for: how many more stand after it, and what is added from one to the next, in 64 bits.
+#[derive(Clone, Copy)]
+struct Member {
+    value: u64,
+    byte: u8,
     left: u64,
     step: u64,
-    next: usize,
 }
 
-// The value of a digit, 0 to 9 and A to F; 16 for any other byte.
-fn digit(c: u8) -> u8
-    ensures { result ≡ digit_of c }
+// A word, or a number of the section that the word before it names.
+#[derive(Clone, Copy)]
+pub enum Item {
+    Word(Option<u8>),
+    Number {
+        section: Option<u8>,
+        value: u64,
+        byte: u8,
+    },
+}
+
+// What is left of a line's items.
+#[derive(Clone, Copy)]
+pub struct Items<'a> {
+    tokens: Tokens<'a>,
+    section: Option<u8>,
+    member: Member,
+    turns: usize,
+}
+
+// The value of a digit, 0 to 9 and A to F.
+#[tactic(auto, unfolding(crate::specs::Words::digit_of))]
+fn digit(c: u8) -> Option<u8>
+    ensures value { result ≡ digit_of c }
+    ensures below { IfSome result (λ d. d < 16) }
 {
-    if c < b'0' {
-        return 16;
+    match c {
+        b'0'..=b'9' => Some(c - b'0'),
+        b'A'..=b'F' => Some(c - b'A' + 10),
+        _ => None,
     }
-    if c <= b'9' {
-        return c - b'0';
-    }
-    if c < b'A' {
-        return 16;
-    }
-    if c <= b'F' {
-        return c - b'A' + 10;
-    }
-    16
 }
 
-// A number with a digit more.
+// A number with a digit more, in 64 bits; a longer one stays as it is.
+#[tactic(auto, unfolding(crate::specs::Words::longer))]
 fn with_digit(n: u64, d: u8) -> u64
     ensures { result ≡ longer n d }
 {
     if n <= 1844674407370955161 {
-        return std::num::wrapping_add_u64(n * 10, d as u64);
+        return (n * 10).wrapping_add(u64::from(d));
     }
     n
 }
 
-// A token with a byte more.
-fn with_byte(t: Token, c: u8) -> Token
-    ensures { result ≡ token_with t c }
+// What follows the number before a sign.
+#[tactic(auto, unfolding(crate::specs::Words::run_at))]
+fn after_sign(c: u8, first: u64) -> Run
+    ensures { result ≡ run_at c first }
 {
-    let d = digit(c);
-    if d < 16 {
-        return Token {
-            word: NUMBER,
-            value: with_digit(t.value, d),
-            byte: t.byte % 16 * 16 + d,
-            sign: t.sign,
-            first: t.first,
-            next: t.next,
-        };
+    match c {
+        b'-' => Run::To(first),
+        b'*' => Run::Times(first),
+        _ => Run::One,
     }
-    if t.word == NUMBER {
-        return Token {
-            word: NUMBER,
-            value: 0,
-            byte: t.byte,
-            sign: c,
-            first: t.value,
-            next: t.next,
-        };
-    }
-    if t.word == EMPTY {
-        return Token {
-            word: c,
-            value: t.value,
-            byte: t.byte,
-            sign: t.sign,
-            first: t.first,
-            next: t.next,
-        };
-    }
-    t
 }
 
-// The token at a position.
-fn token_at(line: &[u8], at: usize) -> Token
-    ensures { result ≡ token_at line.now at }
-{
-    let mut t = Token {
-        word: EMPTY,
-        value: 0,
-        byte: 0,
-        sign: 0,
-        first: 0,
-        next: line.len(),
-    };
-    let mut i = at;
-    while i < line.len() {
-        let c = line[i];
-        i += 1;
-        if c == b' ' {
-            t.next = i;
-            return t;
+impl Numeral {
+    fn with(self, d: u8) -> Numeral
+        requires { d < 16 }
+        ensures { result ≡ numeral_with self d }
+    {
+        Numeral {
+            run: self.run,
+            value: with_digit(self.value, d),
+            byte: self.byte % 16 * 16 + d,
         }
-        t = with_byte(t, c);
     }
-    t
-}
 
-// Before the first item of a line.
-pub fn start() -> Item
-    ensures { result ≡ first_item }
-{
-    Item {
-        word: EMPTY,
-        section: EMPTY,
-        value: 0,
-        byte: 0,
-        left: 0,
-        step: 0,
-        next: 0,
-    }
-}
-
-// A number of a token, after which so many more stand.
-fn number(t: Token, section: u8, value: u64, left: u64, step: u64) -> Item
-    ensures { result ≡ number_of t section value left step }
-{
-    Item {
-        word: NUMBER,
-        section,
-        value,
-        byte: t.byte,
-        left,
-        step,
-        next: t.next,
-    }
-}
-
-// The first number that a token stands for.
-fn numbers(t: Token, section: u8) -> Item
-    ensures { result ≡ token_numbers t section }
-{
-    let a = t.first;
-    let b = t.value;
-    if t.sign == b'-' {
-        if a <= b {
-            return number(t, section, a, b - a, 1);
-        }
-        return number(t, section, a, a - b, 18446744073709551615);
-    }
-    if t.sign != b'*' {
-        return number(t, section, b, 0, 0);
-    }
-    if b < 1 {
-        return number(t, section, 0, 0, 0);
-    }
-    number(t, section, a, b - 1, 0)
-}
-
-// The item after one; after the last, END.
-pub fn item_after(line: &[u8], before: Item) -> Item
-    ensures { result ≡ item_after line.now before }
-{
-    if 0 < before.left {
-        return Item {
-            word: before.word,
-            section: before.section,
-            value: std::num::wrapping_add_u64(before.value, before.step),
-            byte: before.byte,
-            left: before.left - 1,
-            step: before.step,
-            next: before.next,
+    // The first number that a token stands for.
+    #[tactic(auto, unfolding(crate::specs::Items::first_member))]
+    fn first(self) -> Member
+        ensures { result ≡ first_member self }
+    {
+        let Numeral { run, value, byte } = self;
+        let (value, left, step) = match run {
+            Run::One => (value, 0, 0),
+            Run::To(a) if a <= value => (a, value - a, 1),
+            Run::To(a) => (a, a - value, 18446744073709551615),
+            Run::Times(_) if value < 1 => (0, 0, 0),
+            Run::Times(a) => (a, value - 1, 0),
         };
+        Member {
+            value,
+            byte,
+            left,
+            step,
+        }
     }
-    let at = before.next;
-    let t = token_at(line, at);
-    if t.word == NUMBER {
-        return numbers(t, before.section);
+}
+
+impl Token {
+    // A token with a byte more: a digit, the sign after a number, or the first letter of a word.
+    #[tactic(auto, unfolding(crate::specs::Words::token_with))]
+    fn with(self, c: u8) -> Token
+        ensures { result ≡ token_with self c }
+    {
+        match (self, digit(c)) {
+            (Token::Digits(n), Some(d)) => Token::Digits(n.with(d)),
+            (Token::Letters(_), Some(d)) => Token::Digits(Numeral {
+                run: Run::One,
+                value: u64::from(d),
+                byte: d,
+            }),
+            (Token::Digits(n), None) => Token::Digits(Numeral {
+                run: after_sign(c, n.value),
+                value: 0,
+                byte: n.byte,
+            }),
+            (Token::Letters(None), None) => Token::Letters(Some(c)),
+            (Token::Letters(word), None) => Token::Letters(word),
+        }
     }
-    Item {
-        word: if at < line.len() { t.word } else { END },
-        section: t.word,
-        value: 0,
-        byte: 0,
-        left: 0,
-        step: 0,
-        next: t.next,
+}
+
+impl<'a> Iterator for Tokens<'a> {
+    type Item = Token;
+
+    ghost next_gives = { YieldsFirst tokens_left };
+
+    ghost remaining = { item_count tokens_left };
+
+    #[tactic(auto, unfolding(crate::specs::Words::tokens_from))]
+    fn next(&mut self) -> Option<Token> {
+        let line = self.rest;
+        if line.is_empty() {
+            return None;
+        }
+        let mut token = Token::Letters(None);
+        for (i, c) in line.iter().enumerate() {
+            if *c == b' ' {
+                self.rest = &line[i + 1..];
+                return Some(token);
+            }
+            token = token.with(*c);
+        }
+        self.rest = &line[line.len()..];
+        Some(token)
+    }
+}
+
+impl<'a> Items<'a> {
+    // All of a line, but no more than there may be.
+    pub fn new(line: &'a [u8]) -> Items<'a>
+        ensures { items_left result ≡ items_of line.now }
+    {
+        Items {
+            tokens: Tokens { rest: line },
+            section: None,
+            member: Member {
+                value: 0,
+                byte: 0,
+                left: 0,
+                step: 0,
+            },
+            turns: MOST_ITEMS,
+        }
+    }
+}
+
+impl<'a> Iterator for Items<'a> {
+    type Item = Item;
+
+    ghost next_gives = { YieldsFirst items_left };
+
+    ghost remaining = { item_count items_left };
+
+    #[tactic(auto, unfolding(crate::specs::Items::items_from))]
+    fn next(&mut self) -> Option<Item> {
+        if self.turns == 0 {
+            return None;
+        }
+        if 0 < self.member.left {
+            self.member = Member {
+                value: self.member.value.wrapping_add(self.member.step),
+                byte: self.member.byte,
+                left: self.member.left - 1,
+                step: self.member.step,
+            };
+        } else {
+            match self.tokens.next()? {
+                Token::Digits(n) => self.member = n.first(),
+                Token::Letters(word) => {
+                    self.section = word;
+                    self.turns -= 1;
+                    return Some(Item::Word(word));
+                }
+            }
+        }
+        self.turns -= 1;
+        Some(Item::Number {
+            section: self.section,
+            value: self.member.value,
+            byte: self.member.byte,
+        })
+    }
+}
+
+// The letter of the word that a line begins with.
+pub fn command(line: &[u8]) -> Option<u8>
+    ensures { result ≡ command_of line.now }
+{
+    match (Tokens { rest: line }).next()? {
+        Token::Letters(word) => word,
+        Token::Digits(_) => None,
     }
 }
 
 // The number with so many numbers before it on the line, or 0.
+#[tactic(auto, unfolding(crate::specs::Items::given_from))]
 pub fn given(line: &[u8], before: usize) -> u64
     ensures { result ≡ given_of line.now before }
 {
     let mut left = before;
-    let mut at = 0;
-    let mut turns = line.len();
-    while turns > 0 {
-        turns -= 1;
-        let t = token_at(line, at);
-        if t.word == NUMBER {
+    for token in (Tokens { rest: line }) {
+        if let Token::Digits(n) = token {
             if left == 0 {
-                return t.value;
+                return n.value;
             }
             left -= 1;
         }
-        at = t.next;
     }
     0
 }
