@@ -14,13 +14,11 @@ pub struct Box {
     pub quota: u64,
 }
 
-// A box with a part cut off it.
+// A part cut off a box, and what is left.
 #[derive(Clone, Copy)]
-pub enum Cut {
-    // The part, and what is left.
-    Parts(Box, Box),
-    // The box has less than the part's quota, or lies past 64 bits.
-    None,
+pub struct Cut {
+    pub part: Box,
+    pub rest: Box,
 }
 
 impl Box {
@@ -36,80 +34,79 @@ impl Box {
     }
 
     // The other box lies in this one.
+    #[tactic(auto, unfolding(crate::specs::Boxes::contains))]
     pub fn contains(self, other: Box) -> bool
         ensures { result ≡ contains self other }
     {
-        if self.l.encloses(self.quota, other.l, other.quota) {
-            return self.r.encloses(self.quota, other.r, other.quota);
-        }
-        false
+        self.l.encloses(self.quota, other.l, other.quota)
+            && self.r.encloses(self.quota, other.r, other.quota)
     }
 
     // The boxes have disjoint l ranges and disjoint r ranges.
+    #[tactic(auto, unfolding(crate::specs::Boxes::disjoint))]
     pub fn disjoint(self, other: Box) -> bool
         ensures { result ≡ disjoint self other }
     {
-        if self.l.apart_from(self.quota, other.l, other.quota) {
-            return self.r.apart_from(self.quota, other.r, other.quota);
-        }
-        false
+        self.l.apart_from(self.quota, other.l, other.quota)
+            && self.r.apart_from(self.quota, other.r, other.quota)
     }
 
-    // The next child, cut off along the falling diagonal: it takes the lowest l part and the highest r part.
-    pub fn next_child(self, quota: u64) -> Cut
+    // The next child, cut off along the falling diagonal: it takes the lowest l part and the highest r part. None where the box has less
+    // than its quota, or lies past 64 bits.
+    pub fn next_child(self, quota: u64) -> Option<Cut>
         ensures { result ≡ next_child self quota }
     {
         if self.quota < quota {
-            return Cut::None;
+            return None;
         }
         let l = self.l;
         let r = self.r;
         let left = self.quota - quota;
         if l.passes(quota) | r.passes(left) {
-            return Cut::None;
+            return None;
         }
-        Cut::Parts(
-            Box {
+        Some(Cut {
+            part: Box {
                 l,
                 r: r.plus(left),
                 quota,
             },
-            Box {
+            rest: Box {
                 l: l.plus(quota),
                 r,
                 quota: left,
             },
-        )
+        })
     }
 
     // A parent in the box of its subtree, cut off along the rising diagonal: it takes the low corner (upright) or the high corner
-    // (inverted), and its children share what is left.
-    pub fn corner(self, upright: bool, own: u64) -> Cut
+    // (inverted), and its children share what is left. None as above.
+    pub fn corner(self, upright: bool, own: u64) -> Option<Cut>
         ensures { result ≡ corner_cut upright self own }
     {
         let l = self.l;
         let r = self.r;
         if (self.quota < own) | (l.passes(self.quota) | r.passes(self.quota)) {
-            return Cut::None;
+            return None;
         }
         let inner = self.quota - own;
         if upright {
-            return Cut::Parts(
-                Box { l, r, quota: own },
-                Box {
+            return Some(Cut {
+                part: Box { l, r, quota: own },
+                rest: Box {
                     l: l.plus(own),
                     r: r.plus(own),
                     quota: inner,
                 },
-            );
+            });
         }
-        Cut::Parts(
-            Box {
+        Some(Cut {
+            part: Box {
                 l: l.plus(inner),
                 r: r.plus(inner),
                 quota: own,
             },
-            Box { l, r, quota: inner },
-        )
+            rest: Box { l, r, quota: inner },
+        })
     }
 }

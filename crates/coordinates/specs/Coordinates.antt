@@ -1,15 +1,24 @@
 -- The two coordinates, and ranges of each (RULES.md, 3).
 use Rattle.std.specs.Prelude.{ℕ, ◌+◌, ◌%◌, Bool, cond, ◌&&◌, List, nat_le, nat_lt, slice_set}
 use Rattle.rules.specs.Limits.{greatest}
-use Rattle.coordinates.specs.declared.left.LValue.{LValue}
-use Rattle.coordinates.specs.declared.right.RValue.{RValue}
+use Rattle.coordinates.specs.declared.axis.Coordinate.{Coordinate}
+
+-- an l-value, and an r-value
+abbrev pub LValue : Type 0
+LValue = Coordinate 0
+
+abbrev pub RValue : Type 0
+RValue = Coordinate 1
 
 -- the coordinates of a number
+abbrev pub value_of : {of_r : ℕ} → ℕ → Coordinate of_r
+value_of n = record { 0 = n }
+
 abbrev pub l_value : ℕ → LValue
-l_value n = record { 0 = n }
+l_value n = value_of n
 
 abbrev pub r_value : ℕ → RValue
-r_value n = record { 0 = n }
+r_value n = value_of n
 
 -- one coordinate is at most another of its kind
 abbrev pub at_most : ℕ → ℕ → Bool

@@ -2,9 +2,7 @@
 // so that a comparison of an l-value with an r-value can't be written.
 #![tactic(auto)]
 
-mod left;
+mod axis;
 mod plain;
-mod right;
 
-pub use left::LValue;
-pub use right::RValue;
+pub use axis::{Coordinate, LValue, RValue};

@@ -3,9 +3,9 @@ ghost use Rattle.std.specs.Prelude.{◌≡◌, ◌+◌};
 ghost use Rattle.coordinates.specs.Coordinates.{within, apart, column_with, past, onward};
 
 use rules::GREATEST;
-use std::num::wrapping_add_u64;
 
 // The second of two ranges lies in the first.
+#[tactic(auto, unfolding(crate::specs::Coordinates::within))]
 pub(crate) fn within(a: u64, q: u64, b: u64, p: u64) -> bool
     ensures { result ≡ within a q b p }
 {
@@ -19,6 +19,7 @@ pub(crate) fn within(a: u64, q: u64, b: u64, p: u64) -> bool
 }
 
 // Of two ranges the one that begins first ends before the other begins.
+#[tactic(auto, unfolding(crate::specs::Coordinates::apart))]
 pub(crate) fn apart(a: u64, q: u64, b: u64, p: u64) -> bool
     ensures { result ≡ apart a q b p }
 {
@@ -32,17 +33,18 @@ pub(crate) fn apart(a: u64, q: u64, b: u64, p: u64) -> bool
 pub(crate) fn passes(a: u64, n: u64) -> bool
     ensures { result ≡ past (a + n) }
 {
-    18446744073709551615 - a < n
+    u64::MAX - a < n
 }
 
 // n numbers on from a; past 64 bits it wraps.
 pub(crate) fn onward(a: u64, n: u64) -> u64
     ensures { result ≡ onward a n }
 {
-    wrapping_add_u64(a, n)
+    a.wrapping_add(n)
 }
 
 // Writes n to place i of a column, where n has 32 bits and the column has the place.
+#[tactic(auto, unfolding(crate::specs::Coordinates::column_with))]
 pub(crate) fn write(column: &mut [u32], i: usize, n: u64)
     ensures { column.new ≡ column_with column.old i n }
 {

@@ -1,0 +1,63 @@
+// A coordinate. Its number is private to this module, and l-values and r-values are types of their own.
+ghost use Rattle.std.specs.Prelude.{◌≡◌, ◌+◌};
+ghost use Rattle.coordinates.specs.Coordinates.{value_of, within, apart, at_most, column_with, past, onward};
+
+use crate::plain::{apart, onward, passes, within, write};
+
+// An l-value, or an r-value (`OF_R`). 64 bits: a box may end at 4294967295, and what is left of it then begins one past that.
+#[derive(Clone, Copy)]
+pub struct Coordinate<const OF_R: bool>(u64);
+
+pub type LValue = Coordinate<false>;
+
+pub type RValue = Coordinate<true>;
+
+impl<const OF_R: bool> Coordinate<OF_R> {
+    // The coordinate of a number.
+    pub fn new(n: u64) -> Self
+        ensures { result ≡ value_of n }
+    {
+        Coordinate(n)
+    }
+
+    pub fn at_most(self, other: Self) -> bool
+        ensures { result ≡ at_most self.entry.0 other.entry.0 }
+    {
+        self.0 <= other.0
+    }
+
+    // Writes it to a place of a column.
+    pub fn write(self, column: &mut [u32], i: usize)
+        ensures { column.new ≡ column_with column.old i self.entry.0 }
+    {
+        write(column, i, self.0);
+    }
+
+    // Of the ranges of q numbers from here on and of p numbers from there on, the second lies in the first.
+    pub fn encloses(self, q: u64, there: Self, p: u64) -> bool
+        ensures { result ≡ within self.entry.0 q there.entry.0 p }
+    {
+        within(self.0, q, there.0, p)
+    }
+
+    // They are disjoint.
+    pub fn apart_from(self, q: u64, there: Self, p: u64) -> bool
+        ensures { result ≡ apart self.entry.0 q there.entry.0 p }
+    {
+        apart(self.0, q, there.0, p)
+    }
+
+    // The coordinate n numbers on is past 64 bits.
+    pub fn passes(self, n: u64) -> bool
+        ensures { result ≡ past (self.entry.0 + n) }
+    {
+        passes(self.0, n)
+    }
+
+    // The coordinate n numbers on; past 64 bits it wraps.
+    pub fn plus(self, n: u64) -> Self
+        ensures { result ≡ value_of (onward self.entry.0 n) }
+    {
+        Coordinate(onward(self.0, n))
+    }
+}
