@@ -32,7 +32,7 @@ times_ids x [] = refl
 times_ids x (e ∷ s) = ap (λ n. pick (eqb x e.id) 1 0 + n) (times_ids x s)
 
 some_ids : (p : Entry → Bool) (r : ℕ → Bool) (s : List Entry) → ((e : Entry) → p e ≡ r e.id) → some_entry p s ≡ some_id r (ids_of s)
-unfolding some_entry some_id
+unfolding some_entry
 some_ids p r [] h = refl
 some_ids p r (e ∷ s) h = ap₂ ◌||◌ (h e) (some_ids p r s h)
 

@@ -46,7 +46,7 @@ differ_times x (y ∷ s) h =
 
 -- a test that fails at each id
 none_some : (p : ℕ → Bool) (s : List ℕ) → ((x : ℕ) → 1 ≤ times_in x s → p x ≡ false) → some_id p s ≡ false
-unfolding some_id times_in
+unfolding times_in
 none_some p [] h = refl
 none_some p (y ∷ s) h = rw (h y (rw (eq-eqb y y refl) (omega arith))) (none_some p s (λ x k. h x (omega arith)))
 
@@ -71,7 +71,7 @@ module _ (u : ℕ) (id ids : List ℕ) (h : all_differ (others_than u id ++ othe
 
 -- a test that holds of none
 some_none : (p : ℕ → Bool) (s : List ℕ) (x : ℕ) → some_id p s ≡ false → 1 ≤ times_in x s → p x ≡ false
-unfolding some_id times_in
+unfolding times_in
 some_none p [] x h k = absurd (omega arith)
 some_none p (y ∷ s) x h k =
     let b = or_none (p y) (some_id p s) h in

@@ -1,11 +1,8 @@
 -- The refusals 20 to 26 (RULES.md, 7) as the code finds them, from the ids of the table's rows and of the entries.
 use Rattle.std.specs.Prelude.{Bool, cond, not, ◌&&◌, List, ℕ, ◌+◌, ◌-◌, eqb, leb, ltb, length, get_or}
 use Rattle.rules.specs.Answers.{Answer, answer, refused}
-use Rattle.rules.specs.Refusals.{refusal_number}
 use Rattle.table.specs.Places.{place_of}
 use Rattle.judging.specs.Ids.{times_in, some_id}
-use Rattle.judging.specs.declared.Judged.{Judged}
-use Rattle.judging.specs.declared.Judged.TheVariants as judged
 
 -- the row of the group u among the rows in use, or their number where it is not there
 abbrev pub own_row : List ℕ → ℕ → ℕ
@@ -30,7 +27,3 @@ judged_in id q room u ids sum =
     (cond (not (eqb sum (get_or q (own_row id u) 0))) (refused 23)
     (cond (ltb room (length id + length ids - 1)) (refused 24)
     (answer (own_row id u)))))))
-
-abbrev pub judged_says : Judged → Answer ℕ
-judged_says (judged.Row own) = answer own
-judged_says (judged.Refused why) = refused (refusal_number why)

@@ -12,20 +12,17 @@ const MANY_ENTRIES: usize = 16;
 // Count + entries of a request that is accepted is at most this.
 const ID_CAPACITY: usize = ROW_CAPACITY + 1;
 
-// Puts the ids that are not x behind the first n numbers of an array. The answer is how many numbers it then has.
-fn collect(ids: &[u32], x: u32, n: usize, all: &mut [u32; ID_CAPACITY]) -> usize
+// Puts the ids that are not the exploded one behind the first n numbers of an array. The answer is how many numbers it then has.
+fn collect(ids: &[u32], exploded: u32, n: usize, all: &mut [u32; ID_CAPACITY]) -> usize
     requires { n + length ids.now ≤ id_capacity }
-    ensures { Collects (others_than x ids.now) n all.old all.new result }
+    ensures { Collects (others_than exploded ids.now) n all.old all.new result }
 {
     let mut m = n;
-    let mut i = 0;
-    while i < ids.len() {
-        let own = ids[i];
-        if own != x {
-            all[m] = own;
+    for x in ids {
+        if *x != exploded {
+            all[m] = *x;
             m += 1;
         }
-        i += 1;
     }
     m
 }

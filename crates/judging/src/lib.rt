@@ -5,12 +5,3 @@ mod collecting;
 mod judging;
 
 pub use judging::judge;
-use rules::Refusal;
-
-// What a request that was read comes to.
-#[derive(Clone, Copy)]
-pub enum Judged {
-    // The row of the group that it explodes.
-    Row(usize),
-    Refused(Refusal),
-}
