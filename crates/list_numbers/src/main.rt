@@ -1,7 +1,6 @@
 // Lists the stored numbers of its input, at most 65536 bytes, a line each; `no` and the refusal at the first that is bad.
 #![tactic(auto)]
 
-use number::Drawn;
 use rules::Refusal;
 use std::io;
 use std::io::{BufWriter, Read, Write};
@@ -22,11 +21,11 @@ fn list<W: Write>(out: &mut W, bytes: &[u8]) -> io::Result<()> {
     let mut at = 0;
     while at < bytes.len() {
         match number::number_at(bytes, at) {
-            Drawn::Number(value, next) => {
-                line(out, value)?;
-                at = next;
+            Ok(number) => {
+                line(out, number.value)?;
+                at = number.next;
             }
-            Drawn::Refused(why) => return refusal(out, why),
+            Err(why) => return refusal(out, why),
         }
     }
     Ok(())

@@ -10,7 +10,9 @@ use Rattle.rules.specs.Answers.{answer, refused}
 use Rattle.rules.proofs.Answers.{same_answer, peel, then_answer}
 use Rattle.number.specs.Number.{found, number_at}
 use Rattle.number.proofs.Laws.{number_ends}
-use Rattle.request_log.specs.Log.{Pair, pair_of, Part, part_at, bytes_in, no_more, one_more, part_then, requests_from}
+use Rattle.request_log.specs.declared.Pair.{Pair}
+use Rattle.request_log.specs.declared.Part.{Part}
+use Rattle.request_log.specs.Log.{pair_of, part_at, bytes_in, no_more, one_more, part_then, requests_from}
 
 -- ## The pair
 

@@ -3,23 +3,14 @@ use Rattle.std.specs.Prelude.{ℕ, zero, suc, ◌+◌, ◌-◌, cond, leb, ltb, 
 use mathlib.Core.List.{List, [], ◌∷◌, ◌++◌, flat_map}
 use Rattle.rules.specs.Answers.{Answer, answer, refused, then}
 use Rattle.number.specs.Number.{number_at, bytes_of}
-
--- the fresh pair, and the position after it
-pub record Pair : Type 0 where
-  pub id : ℕ
-  pub quota : ℕ
-  pub next : ℕ
+use Rattle.request_log.specs.declared.Pair.{Pair}
+use Rattle.request_log.specs.declared.Part.{Part}
 
 -- a log begins with its pair: both numbers are read
 unfoldable pub pair_of : List ℕ → Answer Pair
 pair_of log =
     then (number_at log 0) λ id.
     then (number_at log id.next) λ quota. answer (record { id = id.value; quota = quota.value; next = quota.next })
-
--- a part of a log: from its first byte up to, and without, its end
-pub record Part : Type 0 where
-  pub start : ℕ
-  pub end : ℕ
 
 -- the request whose length stands at a position. 1 for an overlong length: more than the bytes left
 unfoldable pub part_at : List ℕ → ℕ → Answer Part

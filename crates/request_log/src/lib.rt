@@ -4,53 +4,53 @@
 mod room;
 
 ghost use Rattle.std.specs.Prelude.{◌≡◌};
+ghost use Rattle.rules.specs.Says.{says};
 ghost use Rattle.request_log.specs.Log.{pair_of, part_at};
-ghost use Rattle.request_log.specs.Says.{pair_says, part_says};
 
-use number::{Drawn, number_at};
+use number::number_at;
 pub use room::no_room;
 use rules::Refusal;
 
-// The fresh pair that begins a log.
+// The fresh pair that begins a log, and the position after it.
 #[derive(Clone, Copy)]
-pub enum PairRead {
-    // Its id, its quota, and the position after them.
-    Pair(u32, u32, usize),
-    Refused(Refusal),
+pub struct Pair {
+    pub id: u32,
+    pub quota: u32,
+    pub next: usize,
 }
 
-// A request in a log.
+// A request in a log: where its bytes start, and where they end.
 #[derive(Clone, Copy)]
-pub enum PartRead {
-    // Where its bytes start, and where they end.
-    Part(usize, usize),
-    Refused(Refusal),
+pub struct Part {
+    pub start: usize,
+    pub end: usize,
 }
 
 // The fresh pair: 1 or 2 for a bad number.
-pub fn pair_of(log: &[u8]) -> PairRead
-    ensures { pair_says result ≡ pair_of log.now }
+#[tactic(auto, unfolding(crate::specs::Log::pair_of))]
+pub fn pair_of(log: &[u8]) -> Result<Pair, Refusal>
+    ensures { says result ≡ pair_of log.now }
 {
-    match number_at(log, 0) {
-        Drawn::Refused(why) => PairRead::Refused(why),
-        Drawn::Number(id, second) => match number_at(log, second) {
-            Drawn::Refused(why) => PairRead::Refused(why),
-            Drawn::Number(quota, next) => PairRead::Pair(id, quota, next),
-        },
-    }
+    let id = number_at(log, 0)?;
+    let quota = number_at(log, id.next)?;
+    Ok(Pair {
+        id: id.value,
+        quota: quota.value,
+        next: quota.next,
+    })
 }
 
 // The request whose length stands at a position: 1 or 2 for a bad length, 1 for an overlong one.
-pub fn part_at(log: &[u8], at: usize) -> PartRead
-    ensures { part_says result ≡ part_at log.now at }
+#[tactic(auto, using(crate::proofs::Laws::length_bad, crate::proofs::Laws::length_over, crate::proofs::Laws::length_good))]
+pub fn part_at(log: &[u8], at: usize) -> Result<Part, Refusal>
+    ensures { says result ≡ part_at log.now at }
 {
-    match number_at(log, at) {
-        Drawn::Refused(why) => PartRead::Refused(why),
-        Drawn::Number(value, next) => {
-            if log.len() - next < value as usize {
-                return PartRead::Refused(Refusal::NumberCut);
-            }
-            PartRead::Part(next, next + value as usize)
-        }
+    let length = number_at(log, at)?;
+    if log.len() - length.next < length.value as usize {
+        return Err(Refusal::NumberCut);
     }
+    Ok(Part {
+        start: length.next,
+        end: length.next + length.value as usize,
+    })
 }
