@@ -6,7 +6,7 @@ ghost use Rattle.grant.specs.Grant.{grant, grant_bad, checked_grant, grant_at};
 ghost use Rattle.grant.specs.Says.{grant_says};
 
 use coordinates::{LValue, RValue};
-use number::{Drawn, number_at};
+use number::number_at;
 use rules::Refusal;
 
 // A grant as it is read.
@@ -21,15 +21,15 @@ pub struct Grant {
     pub last: u32,
 }
 
-// What stands at a position of a grant list.
+// A grant that stands in bytes, and the position after it.
 #[derive(Clone, Copy)]
-pub enum GrantDrawn {
-    // A grant, and the position after it.
-    Grant(Grant, usize),
-    Refused(Refusal),
+pub struct GrantRead {
+    pub grant: Grant,
+    pub next: usize,
 }
 
 // 14: feature, l, r or first is 0, or last is not 0 and below first.
+#[tactic(auto, unfolding(crate::specs::Grant::grant_bad))]
 fn grant_bad(feature: u32, l: u32, r: u32, first: u32, last: u32) -> bool
     ensures { result ≡ grant_bad (grant feature l r first last) }
 {
@@ -43,42 +43,46 @@ fn grant_bad(feature: u32, l: u32, r: u32, first: u32, last: u32) -> bool
 }
 
 // A grant whose five numbers are read: 14.
-fn checked_grant(feature: u32, l: u32, r: u32, first: u32, last: u32, next: usize) -> GrantDrawn
+#[tactic(auto, unfolding(crate::specs::Grant::checked_grant))]
+fn checked_grant(
+    feature: u32,
+    l: u32,
+    r: u32,
+    first: u32,
+    last: u32,
+    next: usize,
+) -> Result<GrantRead, Refusal>
     ensures { grant_says result ≡ checked_grant (grant feature l r first last) next }
 {
     if grant_bad(feature, l, r, first, last) {
-        return GrantDrawn::Refused(Refusal::Grant);
+        return Err(Refusal::Grant);
     }
-    let g = Grant {
+    let grant = Grant {
         feature,
         l: LValue::new(l as u64),
         r: RValue::new(r as u64),
         first,
         last,
     };
-    GrantDrawn::Grant(g, next)
+    Ok(GrantRead { grant, next })
 }
 
 // The grant at a position: 1, 2, then 14.
-pub fn grant_at(bytes: &[u8], at: usize) -> GrantDrawn
+#[tactic(auto, unfolding(crate::specs::Grant::grant_at))]
+pub fn grant_at(bytes: &[u8], at: usize) -> Result<GrantRead, Refusal>
     ensures { grant_says result ≡ grant_at bytes.now at }
 {
-    match number_at(bytes, at) {
-        Drawn::Refused(why) => GrantDrawn::Refused(why),
-        Drawn::Number(feature, l_at) => match number_at(bytes, l_at) {
-            Drawn::Refused(why) => GrantDrawn::Refused(why),
-            Drawn::Number(l, r_at) => match number_at(bytes, r_at) {
-                Drawn::Refused(why) => GrantDrawn::Refused(why),
-                Drawn::Number(r, first_at) => match number_at(bytes, first_at) {
-                    Drawn::Refused(why) => GrantDrawn::Refused(why),
-                    Drawn::Number(first, last_at) => match number_at(bytes, last_at) {
-                        Drawn::Refused(why) => GrantDrawn::Refused(why),
-                        Drawn::Number(last, next) => {
-                            checked_grant(feature, l, r, first, last, next)
-                        }
-                    },
-                },
-            },
-        },
-    }
+    let feature = number_at(bytes, at)?;
+    let l = number_at(bytes, feature.next)?;
+    let r = number_at(bytes, l.next)?;
+    let first = number_at(bytes, r.next)?;
+    let last = number_at(bytes, first.next)?;
+    checked_grant(
+        feature.value,
+        l.value,
+        r.value,
+        first.value,
+        last.value,
+        last.next,
+    )
 }
