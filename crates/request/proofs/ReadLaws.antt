@@ -12,13 +12,15 @@ use Rattle.rules.specs.Limits.{greatest, most_entries, greatest_depth}
 use Rattle.rules.specs.Buffers.{Bytes}
 use Rattle.rules.proofs.Answers.{same_answer, never_refused, peel, wanted, then_answer}
 use Rattle.rules.proofs.Cases.{by_lt}
-use Rattle.number.specs.Number.{Number, number_at}
+use Rattle.number.specs.declared.Number.{Number}
+use Rattle.number.specs.Number.{number_at}
 use Rattle.number.proofs.Laws.{number_fits}
 use Rattle.request.specs.Entries.{entry, pick, one_at, no_quota, times, Positive}
 use Rattle.request.specs.Forest.{none, pre_l}
 use Rattle.request.specs.Request.{Request, entries}
 use Rattle.request.specs.Legal.{depth, LegalTrees, Legal}
-use Rattle.request.specs.Reading.{positive_at, EntryRead, entry_at, TreeRead, TreesRead, trees_by, tree_by, not_full, tree_at, trees_at, request_of}
+use Rattle.request.specs.declared.EntryRead.{EntryRead}
+use Rattle.request.specs.Reading.{positive_at, entry_at, TreeRead, TreesRead, trees_by, tree_by, not_full, tree_at, trees_at, request_of}
 use Rattle.request.proofs.Sums.{sum_append}
 use Rattle.request.proofs.TreeSteps.{beside, tree_full, tree_deep}
 

@@ -9,7 +9,8 @@ use Rattle.rules.specs.Answers.{answer, refused, then}
 use Rattle.rules.specs.Limits.{most_entries}
 use Rattle.request.specs.Entries.{Entry, entry}
 use Rattle.request.specs.Forest.{Forest, none, tree}
-use Rattle.request.specs.Reading.{entry_at, EntryRead, TreesRead, trees_by, tree_by, not_full, tree_at, trees_at}
+use Rattle.request.specs.declared.EntryRead.{EntryRead}
+use Rattle.request.specs.Reading.{entry_at, TreesRead, trees_by, tree_by, not_full, tree_at, trees_at}
 
 -- a tree and the trees to its right
 abbrev pub beside : Entry → Forest → TreesRead → TreesRead

@@ -2,7 +2,9 @@
 use Rattle.std.specs.Prelude.{ℕ, zero, suc, ◌+◌, cond, List, eqb, ltb, length}
 use Rattle.rules.specs.Answers.{Answer, answer, refused, then}
 use Rattle.rules.specs.Limits.{most_entries, greatest_depth}
-use Rattle.number.specs.Number.{Number, number_at}
+use Rattle.number.specs.declared.Number.{Number}
+use Rattle.number.specs.Number.{number_at}
+use Rattle.request.specs.declared.EntryRead.{EntryRead}
 use Rattle.request.specs.Entries.{Entry, entry}
 use Rattle.request.specs.Forest.{Forest, none, tree, Direction, upright, inverted}
 use Rattle.request.specs.Request.{Request}
@@ -15,12 +17,6 @@ unfoldable pub positive_at : List ℕ → ℕ → Answer Number
 positive_at bytes at = positive_of (number_at bytes at)
 
 -- an entry: id, quota, number of children; and the position after it
-pub record EntryRead : Type 0 where
-  pub id : ℕ
-  pub quota : ℕ
-  pub children : ℕ
-  pub next : ℕ
-
 unfoldable pub entry_at : List ℕ → ℕ → Answer EntryRead
 entry_at bytes at =
     then (positive_at bytes at) λ id.
