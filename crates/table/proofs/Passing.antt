@@ -1,20 +1,21 @@
 -- What the check of the columns says of them.
 use mathlib.Core.Path.{◌≡◌, ap, sym, ◌∙◌}
-use mathlib.Core.Bool.{false}
+use mathlib.Core.Bool.{false, ◌||◌}
 use mathlib.Core.List.{List}
 use Prim.Native.Nat.{ℕ, ◌≤◌}
 use lib.ListN.{length}
-use Rattle.rules.specs.Answers.{Answer, answer, refused, given}
+use Rattle.std.specs.Prelude.{Result, Ok, Err}
+use Rattle.rules.specs.Answers.{answer, refused, then, given}
 use Rattle.rules.specs.Refusals.{refusal_number}
-use Rattle.rules.proofs.Answers.{same_answer, peel, then_answer, then_refused}
+use Rattle.rules.specs.declared.Refusal.{Refusal}
+use Rattle.rules.proofs.Answers.{same_answer, peel, then_answer, then_refused, then_cond}
 use Rattle.rules.proofs.Bools.{or_none}
 use Rattle.table.specs.Columns.{Row, Columns, rows}
-use Rattle.table.specs.Check.{some_row, some_pair, lengths_bad, value_bad, same_id, ranges_meet, sound_rows, checked}
+use Rattle.table.specs.Check.{some_row, some_pair, lengths_bad, count_bad, in_use, value_bad, same_id, ranges_meet, sound_rows, checked}
 use Rattle.table.specs.Sound.{Lengths}
 use Rattle.table.specs.Inside.Held.{Holds}
-use Rattle.table.specs.Says.{checked_says}
-use Rattle.table.specs.declared.Checked.{Checked}
-use Rattle.table.specs.declared.Checked.TheVariants as verdict
+use Rattle.table.specs.InUse.{rows_of, found}
+use Rattle.table.specs.declared.in_use.RowsInUse.{RowsInUse}
 use Rattle.table.proofs.Lengths.{lengths_good, count_good, holds_count}
 
 -- rows that pass 11, 12 and 13
@@ -35,6 +36,23 @@ pub rows_good : (t : List Row) → Good t → sound_rows t ≡ answer t
 unfolding sound_rows
 rows_good t g = rw (g.values, g.ids, g.ranges)
 
+-- the check is that of the lengths and of the count, and then that of the rows
+checked_steps : (c : Columns) (count : ℕ) → then (in_use c count) sound_rows ≡ checked c count
+unfolding in_use checked
+checked_steps c count = then_cond (lengths_bad c || count_bad (length c.id) count) 10 (rows c count) sound_rows
+
+module _ (c : Columns) (count : ℕ) where
+  pub refused_at_once : {n : ℕ} → refused n ≡ in_use c count → refused n ≡ checked c count
+  refused_at_once e = ap (λ a. then a sound_rows) e ∙ checked_steps c count
+
+  pub refused_rows : {t : List Row} {n : ℕ} → answer t ≡ in_use c count → refused n ≡ given (sound_rows t) → refused n ≡ checked c count
+  refused_rows {t} e f = sym (then_refused (sound_rows t) (λ _. tt) (sym f)) ∙ ap (λ a. then a sound_rows) e ∙ checked_steps c count
+
+  pub sound_answer : {t : List Row} → answer t ≡ in_use c count → answer tt ≡ given (sound_rows t) → answer t ≡ checked c count
+  sound_answer {t} e f =
+      let a = then_answer (sound_rows t) _ (sym f) in
+      ap answer (good_rows t a.1).1 ∙ sym a.1 ∙ ap (λ a. then a sound_rows) e ∙ checked_steps c count
+
 -- columns that pass the check
 pub record Passed (c : Columns) (count : ℕ) : Type 0 where
   pub lengths : Lengths c
@@ -54,19 +72,13 @@ check_passed c count e =
 pub passed_holds : {c : Columns} {count : ℕ} → Passed c count → Holds c count
 passed_holds p = holds_count p.lengths p.most
 
-pub given_answer : {A : Type 0} (a : Answer A) → given a ≡ answer tt → (x : A) × (a ≡ answer x)
-given_answer a e = let f = then_answer a _ e in (f.0, f.1)
-
-pub given_refused : {A : Type 0} (a : Answer A) {n : ℕ} → given a ≡ refused n → a ≡ refused n
-given_refused a e = then_refused a (λ _. tt) e
-
 -- what a verdict of the code means
-module _ (c : Columns) (count : ℕ) {v : Checked} (e : checked_says v ≡ given (checked c count)) where
-  pub sound : v ≡ verdict.Sound → Passed c count × (checked c count ≡ answer (rows c count))
-  sound h =
-      let a = given_answer (checked c count) (sym (ap checked_says (sym h) ∙ e)) in
-      let p = check_passed c count a.1 in
-      (p.0, a.1 ∙ ap answer (sym p.1))
+module _ (c : Columns) (count : ℕ) {v : Result RowsInUse Refusal} (e : found v ≡ checked c count) where
+  pub sound : {u : RowsInUse} → v ≡ Ok u → Passed c count × (checked c count ≡ answer (rows c count))
+  sound {u} h =
+      let a : checked c count ≡ answer (rows_of u) = sym (ap found (sym h) ∙ e) in
+      let p = check_passed c count a in
+      (p.0, a ∙ ap answer (sym p.1))
 
-  pub unsound : {why : Rattle.rules.specs.declared.Refusal.Refusal} → v ≡ verdict.Refused why → checked c count ≡ refused (refusal_number why)
-  unsound h = given_refused (checked c count) (sym (ap checked_says (sym h) ∙ e))
+  pub unsound : {why : Refusal} → v ≡ Err why → checked c count ≡ refused (refusal_number why)
+  unsound h = sym (ap found (sym h) ∙ e)

@@ -1,5 +1,5 @@
 -- Laws of the index of a number in a column.
-use mathlib.Core.Path.{◌≡◌, refl, ◌∙◌}
+use mathlib.Core.Path.{◌≡◌, refl, ap, ◌∙◌}
 use mathlib.Core.List.{List, [], ◌∷◌}
 use mathlib.Core.Logic.{◌⊎◌, inl, inr, ⊎_elim}
 use Prim.Native.Nat.{ℕ, zero, suc, ◌+◌, ◌≤◌, ◌<◌}
@@ -7,6 +7,10 @@ use native.Mathlib.Omega.{arith}
 use lib.ListN.{length, get_or, take}
 use borrow.Author.Count.{below_more}
 use borrow.Author.Tests.{eq-eqb, ne_eqb}
+use lib.Dec.{eqb}
+use Rattle.std.specs.Option.{unwrap_or}
+use Rattle.std.specs.List.{position, position_from}
+use Rattle.std.proofs.lemmas.Iterator.Adapters.{position_from-zero}
 use Rattle.rules.proofs.Cases.{by_eq}
 use Rattle.table.specs.Places.{index_from, place_of}
 use Rattle.table.specs.Inside.Places.{PlaceIn}
@@ -40,6 +44,16 @@ module _ (column : List ℕ) (n x : ℕ) where
   pub place_none : ((k : ℕ) → k < n → k < length column → get_or column k 0 ≡ x → ⊥) → place_of column n x ≡ n
   unfolding place_of
   place_none f = index_none column n n x 0 f
+
+-- the search by `position`
+index_position : (i none x : ℕ) (s : List ℕ) → unwrap_or (position_from (λ y. eqb y x) i s) none ≡ index_from i none x s
+unfolding index_from
+index_position i none x [] = refl
+index_position i none x (y ∷ s) = by_eq y x (λ e. rw (eq-eqb y x e)) (λ e. rw (ne_eqb y x e) (let f : i + 1 ≡ suc i = omega arith in rw f (index_position (suc i) none x s)))
+
+pub place_position : (column : List ℕ) (n x : ℕ) → unwrap_or (position (λ y. eqb y x) (take n column)) n ≡ place_of column n x
+unfolding place_of
+place_position column n x = ap (λ o. unwrap_or o n) (position_from-zero (λ y. eqb y x) (take n column)) ∙ index_position 0 n x (take n column)
 
 -- the first of n numbers that is x, or none
 first_of : (column : List ℕ) (x n : ℕ) → ((i : ℕ) × (i < n) × (get_or column i 0 ≡ x) × NoneOf column i x) ⊎ NoneOf column n x

@@ -24,6 +24,20 @@ pub some_one : (p : Row → Bool) (w : Row) → some_row p (w ∷ []) ≡ p w
 unfolding some_row
 some_one p w = or-false (p w)
 
+-- one row of some, and those after it
+module _ (p : Row → Bool) {s t : List Row} {w : Row} (e : s ≡ w ∷ t) where
+  pub first_has : p w ≡ true → some_row p s ≡ true
+  unfolding some_row
+  first_has h = rw (e, h)
+
+  pub first_lacks : p w ≡ false → some_row p s ≡ some_row p t
+  unfolding some_row
+  first_lacks h = rw (e, h)
+
+pub none_left : (p : Row → Bool) {s : List Row} → s ≡ [] → some_row p s ≡ false
+unfolding some_row
+none_left p e = rw e
+
 -- a pair of s and one row more: a pair of s, or a row of s with that one
 pub pair_one : (p : Row → Row → Bool) (s : List Row) (w : Row) → some_pair p (s ++ (w ∷ [])) ≡ (some_pair p s || some_row (λ v. p v w) s)
 unfolding some_pair some_row

@@ -45,6 +45,10 @@ unfoldable pub sound_rows : List Row → Answer (List Row)
 sound_rows t =
     cond (some_row value_bad t) (refused 11) (cond (some_pair same_id t) (refused 12) (cond (some_pair ranges_meet t) (refused 13) (answer t)))
 
+-- the rows in use of columns whose lengths and count fit
+unfoldable pub in_use : Columns → ℕ → Answer (List Row)
+in_use c count = cond (lengths_bad c || count_bad (length c.id) count) (refused 10) (answer (rows c count))
+
 -- the rows in use, once the columns have passed the check
 unfoldable pub checked : Columns → ℕ → Answer (List Row)
 checked c count = cond (lengths_bad c || count_bad (length c.id) count) (refused 10) (sound_rows (rows c count))

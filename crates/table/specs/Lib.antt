@@ -2,5 +2,5 @@ pub mod Columns
 pub mod Check
 pub mod Sound
 pub mod Places
-pub mod Says
+pub mod InUse
 pub mod Inside

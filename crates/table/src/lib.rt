@@ -2,23 +2,20 @@
 #![tactic(auto)]
 
 mod checking;
+mod columns;
 mod finding;
+mod in_use;
 
-pub use checking::{check_columns, count_bad, lengths_bad};
+pub use checking::check_columns;
+pub use columns::{count_bad, lengths_bad};
 pub use finding::place_of;
-use rules::Refusal;
+pub use in_use::{RowIter, RowsInUse};
 
-// What the check of the columns finds.
+// A group's row: its id, its l-value, its r-value and its quota.
 #[derive(Clone, Copy)]
-pub enum Checked {
-    Sound,
-    Refused(Refusal),
-}
-
-// The answer of a call that writes rows.
-#[derive(Clone, Copy)]
-pub enum Counted {
-    // The new count.
-    Count(usize),
-    Refused(Refusal),
+pub struct Row {
+    pub id: u32,
+    pub l: u32,
+    pub r: u32,
+    pub q: u32,
 }

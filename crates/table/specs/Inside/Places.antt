@@ -6,9 +6,3 @@ pub record PlaceIn (column : List ℕ) (n x i : ℕ) : Type 0 where
   pub most : i ≤ n
   pub there : i < n → get_or column i 0 ≡ x
   pub before : (k : ℕ) → k < i → get_or column k 0 ≡ x → ⊥
-
--- t is the lesser of a and b
-pub record Least (a b t : ℕ) : Type 0 where
-  pub in_a : t ≤ a
-  pub in_b : t ≤ b
-  pub both : (k : ℕ) → k < a → k < b → k < t

@@ -1,7 +1,8 @@
 -- `table::checking::check_rows` meets its contract: 11, then 12, then 13.
-use Rattle.std.proofs.Common.{not, ap, sym, ◌∙◌}
-use Rattle.table.specs.Columns.{columns}
+use Rattle.std.proofs.Common.{not, ap, sym, ◌≡◌, ◌∙◌}
 use Rattle.table.specs.Check.{sound_rows}
+use Rattle.distinct.specs.Distinct.{all_differ}
+use Rattle.separate.specs.Separate.{boxes_of, all_disjoint}
 use Rattle.table.proofs.Separation.{twelve, thirteen}
 use Rattle.table.proofs.checking.check_rows.Goals as goal
 
@@ -12,25 +13,26 @@ returns-then-some_value_bad c = rw (sym c.some_value_bad.ensures ∙ c.if-some_v
 pub returns-then-not-ids_differ : goal.returns-then-not-ids_differ
 unfolding sound_rows
 returns-then-not-ids_differ c =
-    let cols = columns c.args.id.now c.args.l.now c.args.r.now c.args.q.now in
-    rw (sym c.some_value_bad.ensures ∙ c.if-some_value_bad.false, twelve cols c.args.count c.requires c.ids_differ.ensures (ap not c.if-not-ids_differ.true))
+    rw (sym c.some_value_bad.ensures ∙ c.if-some_value_bad.false, twelve c.args.rows (c.ids_differ.ensures ∙ ap all_differ c.id.ensures) (ap not c.if-not-ids_differ.true))
 
 pub returns-then-not-boxes_separate : goal.returns-then-not-boxes_separate
 unfolding sound_rows
 returns-then-not-boxes_separate c =
-    let cols = columns c.args.id.now c.args.l.now c.args.r.now c.args.q.now in
+    let e : c.boxes_separate.result ≡ all_disjoint (boxes_of c.args.rows.l.now c.args.rows.r.now c.args.rows.q.now) =
+    c.boxes_separate.ensures ∙ rw (c.l.ensures, c.r.ensures, c.q.ensures) in
     rw (
       sym c.some_value_bad.ensures ∙ c.if-some_value_bad.false,
-      twelve cols c.args.count c.requires c.ids_differ.ensures (ap not c.if-not-ids_differ.false),
-      thirteen cols c.args.count c.requires c.boxes_separate.ensures (ap not c.if-not-boxes_separate.true),
+      twelve c.args.rows (c.ids_differ.ensures ∙ ap all_differ c.id.ensures) (ap not c.if-not-ids_differ.false),
+      thirteen c.args.rows e (ap not c.if-not-boxes_separate.true),
     )
 
 pub returns : goal.returns
 unfolding sound_rows
 returns c =
-    let cols = columns c.args.id.now c.args.l.now c.args.r.now c.args.q.now in
+    let e : c.boxes_separate.result ≡ all_disjoint (boxes_of c.args.rows.l.now c.args.rows.r.now c.args.rows.q.now) =
+    c.boxes_separate.ensures ∙ rw (c.l.ensures, c.r.ensures, c.q.ensures) in
     rw (
       sym c.some_value_bad.ensures ∙ c.if-some_value_bad.false,
-      twelve cols c.args.count c.requires c.ids_differ.ensures (ap not c.if-not-ids_differ.false),
-      thirteen cols c.args.count c.requires c.boxes_separate.ensures (ap not c.if-not-boxes_separate.false),
+      twelve c.args.rows (c.ids_differ.ensures ∙ ap all_differ c.id.ensures) (ap not c.if-not-ids_differ.false),
+      thirteen c.args.rows e (ap not c.if-not-boxes_separate.false),
     )
