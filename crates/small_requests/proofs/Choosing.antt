@@ -5,9 +5,12 @@ use Prim.Native.Nat.{ℕ, zero, suc, ◌+◌, ◌*◌, ◌-◌, ◌≤◌, ◌<�
 use native.Mathlib.Omega.{arith}
 use lib.ListN.{length, take, set, length-set}
 use lib.Seq.{take-suc-set, take-set-le, take-take, length-take-le}
+use borrow.Author.Tests.{le-ltb}
+use borrow.Rule.Slice.PartMut.{put_mid}
 use Rattle.rules.specs.Buffers.{after}
 use Rattle.rules.proofs.Buffers.{after_none}
 use Rattle.rules.proofs.Pieces.{Wrote, wrote_none, piece_room, wrote_more, wrote_all}
+use Rattle.text.proofs.Writing.{copied}
 use Rattle.small.specs.Shapes.{up_from, shapes}
 use Rattle.small.specs.Small.{greatest_size}
 use Rattle.small.proofs.Lists.{in_up}
@@ -178,3 +181,19 @@ shapes_over chosen i (suc left) due buffer at h e r =
 
 pub row_whole : (row : List ℕ) (n : ℕ) → n ≤ row_length → length row ≡ row_length → length (take n row) ≡ n
 row_whole row n h l = length-take-le n row (omega arith)
+
+-- so it fits
+pub whole_fits : (row : List ℕ) (done i left due at : ℕ) (buffer : List ℕ) → left ≡ 0 → due ≤ left → done ≤ row_length → length row ≡ row_length
+    → at + length (shapes_bytes (take done row) i left due) ≤ length buffer → at + done ≤ length buffer
+whole_fits row done i left due at buffer e h d l r = omega (arith, r, ap length (shapes_whole (take done row) i left due e h), row_whole row done d l)
+
+-- it is written as it stands
+pub whole_written : (row : List ℕ) (done i left due at : ℕ) (buffer : List ℕ) {new : List ℕ} → left ≡ 0 → due ≤ left → done ≤ row_length → length row ≡ row_length
+    → at + length (shapes_bytes (take done row) i left due) ≤ length buffer → new ≡ take done row
+    → (at + done ≡ at + length (shapes_bytes (take done row) i left due)) × (put_mid at (at + done - at) buffer new ≡ after buffer at (shapes_bytes (take done row) i left due))
+whole_written row done i left due at buffer e h d l r n =
+    let w = shapes_whole (take done row) i left due e h in
+    let f = whole_fits row done i left due at buffer e h d l r in
+    let k = row_whole row done d l in
+    let b = copied buffer at (take done row) n (le-ltb _ _ (omega arith)) in
+    (omega (arith, ap length w), (rw k at b) ∙ ap (after buffer at) (sym w))

@@ -31,34 +31,35 @@ pub record Directing (buffer₀ : List ℕ) (at direction size : ℕ) (buffer ro
   pub front : take 3 row ≡ (3 + 3 * size) ∷ 1 ∷ direction ∷ []
   pub long : length row ≡ row_length
 
-module _ {buffer₀ : List ℕ} {at direction size : ℕ} {buffer row : List ℕ} {p k : ℕ} (c : Directing buffer₀ at direction size buffer row p k) (h : k < size) where
+module _ {buffer₀ : List ℕ} {at direction size : ℕ} {buffer row : List ℕ} {p k : ℕ} (c : Directing buffer₀ at direction size buffer row p k)
+    {trees : ℕ} (h : k < size) (this : trees ≡ k + 1) where
   -- what the tree count leads to
   abbrev led : List ℕ
-  led = shapes_bytes (take 4 (set row 3 (k + 1))) 1 size (k + 1)
+  led = shapes_bytes (take 4 (set row 3 trees)) 1 size trees
 
   led_is : led ≡ of_trees direction size (1 + k)
   unfolding of_trees
   led_is =
       let l = c.long in
-      let z : 1 + k ≡ k + 1 = omega arith in
-      let e : take 4 (set row 3 (k + 1)) ≡ lead direction size (k + 1) = take-suc-set row 3 (k + 1) (omega arith) ∙ ap (λ (t : List ℕ). t ++ ((k + 1) ∷ [])) c.front in
+      let z : 1 + k ≡ trees = omega arith in
+      let e : take 4 (set row 3 trees) ≡ lead direction size trees = take-suc-set row 3 trees (omega arith) ∙ ap (λ (t : List ℕ). t ++ (trees ∷ [])) c.front in
       rw (z, e)
 
   pub direct_room : p + length led ≤ length buffer
   direct_room = rw led_is (piece_room (first_ones direction size) (λ i. of_trees direction size (1 + i)) (next direction size) c.wrote h)
 
-  pub direct_again : {buffer' row' : List ℕ} {q : ℕ} → q ≡ p + length led → buffer' ≡ after buffer p led
-      → take 4 row' ≡ take 4 (set row 3 (k + 1)) → length row' ≡ length (set row 3 (k + 1)) → Directing buffer₀ at direction size buffer' row' q (k + 1)
-  direct_again {buffer'} {row'} {q} e f g l = record {
+  pub direct_again : {again : ℕ} → again ≡ k + 1 → {buffer' row' : List ℕ} {q : ℕ} → q ≡ p + length led → buffer' ≡ after buffer p led
+      → take 4 row' ≡ take 4 (set row 3 trees) → length row' ≡ length (set row 3 trees) → Directing buffer₀ at direction size buffer' row' q again
+  direct_again {again} same {buffer'} {row'} {q} e f g l = rw same (record {
     wrote = wrote_more (first_ones direction size) (λ i. of_trees direction size (1 + i)) (next direction size) c.wrote h (rw led_is at e) (rw led_is at f);
     front =
         sym (take-take 3 4 row' (omega arith))
         ∙ ap (take 3) g
-        ∙ take-take 3 4 (set row 3 (k + 1)) (omega arith)
-        ∙ take-set-le 3 row 3 (k + 1) (omega arith)
+        ∙ take-take 3 4 (set row 3 trees) (omega arith)
+        ∙ take-set-le 3 row 3 trees (omega arith)
         ∙ c.front;
-    long = l ∙ length-set row 3 (k + 1) ∙ c.long;
-  }
+    long = l ∙ length-set row 3 trees ∙ c.long;
+  })
 
 -- the row's first three bytes
 pub fronted : (row : List ℕ) (a b d : ℕ) → length row ≡ row_length → take 3 (set (set (set row 0 a) 1 b) 2 d) ≡ a ∷ b ∷ d ∷ []

@@ -4,13 +4,11 @@
 
 ghost use Rattle.std.specs.Prelude.{◌≡◌, ◌+◌, ◌*◌, ◌≤◌, length, take};
 ghost use Rattle.rules.specs.Buffers.{written, after};
-ghost use Rattle.number.specs.Says.{written_says};
+ghost use Rattle.rules.specs.Says.{says};
 ghost use Rattle.small.specs.Small.{greatest_size, listed, list_bytes};
 ghost use Rattle.small_requests.specs.Inside.Rows.{row_length, shapes_bytes, direction_bytes};
 
-use number::Written;
 use rules::Refusal;
-use text::write_bytes;
 
 // The greatest size that is listed.
 const GREATEST_SIZE: u32 = 6;
@@ -18,55 +16,54 @@ const GREATEST_SIZE: u32 = 6;
 const LEAD: u8 = 4;
 // The bytes of an entry: its id, its quota, its child count.
 const ENTRY: u8 = 3;
+// The byte that a direction is in a request.
+const UPRIGHT: u8 = 0;
+
+const INVERTED: u8 = 1;
 // The bytes of a request of the greatest size, its length included.
 const ROW: usize = 22;
 
-// Writes every request that begins with the first `done` bytes of the row and goes on with `due` trees of `left` entries in all, the next of
-// which has the id `id`. Its child count is chosen here, the others' below. Answers the position after them.
-fn write_shapes(
-    buffer: &mut [u8],
-    at: usize,
-    row: &mut [u8],
-    done: usize,
+// What is still to choose of a request: so many trees of so many entries in all, the next of which has the id `id`.
+#[derive(Clone, Copy)]
+struct Rest {
     id: u8,
-    due: u8,
-    left: u8,
-) -> usize
-    requires row_len { (length row.old ≡ row_length) × (done + 3 * left ≤ row_length) × (id + left ≤ 1 + greatest_size) × (due ≤ left) }
-    requires due_in_bounds { at + length (shapes_bytes (take done row.old) id left due) ≤ length buffer.old }
-    ensures value { result ≡ at + length (shapes_bytes (take done row.old) id left due) }
-    ensures buffer_value { buffer.new ≡ after buffer.old at (shapes_bytes (take done row.old) id left due) }
+    trees: u8,
+    entries: u8,
+}
+
+// Writes every request that begins with the first `done` bytes of the row and goes on with the rest. The next entry's child count is chosen
+// here, the others' below. Answers the position after them.
+fn write_shapes(buffer: &mut [u8], at: usize, row: &mut [u8], done: usize, rest: Rest) -> usize
+    requires row_len { (length row.old ≡ row_length) × (done + 3 * rest.entries ≤ row_length) × (rest.id + rest.entries ≤ 1 + greatest_size) × (rest.trees ≤ rest.entries) }
+    requires due_in_bounds { at + length (shapes_bytes (take done row.old) rest.id rest.entries rest.trees) ≤ length buffer.old }
+    ensures value { result ≡ at + length (shapes_bytes (take done row.old) rest.id rest.entries rest.trees) }
+    ensures buffer_value { buffer.new ≡ after buffer.old at (shapes_bytes (take done row.old) rest.id rest.entries rest.trees) }
     ensures row_value { take done row.new ≡ take done row.old }
 {
-    if left == 0 {
-        // Not refused: there is room.
-        write_bytes(&mut *buffer, at, &row[..done]);
+    let Rest { id, trees, entries } = rest;
+    if entries == 0 {
+        buffer[at..at + done].copy_from_slice(&row[..done]);
         return at + done;
     }
-    if due == 0 {
+    if trees == 0 {
         return at;
     }
     row[done] = id;
     row[done + 1] = 1;
     let mut p = at;
-    let mut k = 0;
-    while k + due <= left {
+    for k in 0..=entries - trees {
         row[done + 2] = k;
-        p = write_shapes(
-            &mut *buffer,
-            p,
-            &mut *row,
-            done + ENTRY as usize,
-            id + 1,
-            due - 1 + k,
-            left - 1,
-        );
-        k += 1;
+        let below = Rest {
+            id: id + 1,
+            trees: trees - 1 + k,
+            entries: entries - 1,
+        };
+        p = write_shapes(&mut *buffer, p, &mut *row, done + ENTRY as usize, below);
     }
     p
 }
 
-// Writes the requests of one direction, 0 upright or 1 inverted: the smaller tree count first. Answers the position after them.
+// Writes the requests of one direction: the smaller tree count first. Answers the position after them.
 fn write_direction(buffer: &mut [u8], at: usize, row: &mut [u8], direction: u8, size: u8) -> usize
     requires row_len { (length row.old ≡ row_length) × (size ≤ greatest_size) }
     requires size_in_bounds { at + length (direction_bytes direction size) ≤ length buffer.old }
@@ -77,12 +74,14 @@ fn write_direction(buffer: &mut [u8], at: usize, row: &mut [u8], direction: u8, 
     row[1] = 1;
     row[2] = direction;
     let mut p = at;
-    let mut listed = 0;
-    while listed < size {
-        let trees = listed + 1;
+    for trees in 1..=size {
         row[3] = trees;
-        p = write_shapes(&mut *buffer, p, &mut *row, LEAD as usize, 1, trees, size);
-        listed += 1;
+        let all = Rest {
+            id: 1,
+            trees,
+            entries: size,
+        };
+        p = write_shapes(&mut *buffer, p, &mut *row, LEAD as usize, all);
     }
     p
 }
@@ -104,20 +103,20 @@ fn request_count(size: u32) -> usize
 
 // Writes every small request of a size from 1 to 6, each after its length; other sizes have none. 30, and no byte, where the buffer is too
 // short.
-pub fn small_requests(size: u32, buffer: &mut [u8]) -> Written
-    ensures result_value { written_says result ≡ written buffer.old 0 (list_bytes size) }
+pub fn small_requests(size: u32, buffer: &mut [u8]) -> Result<usize, Refusal>
+    ensures result_value { says result ≡ written buffer.old 0 (list_bytes size) }
     ensures buffer_value { buffer.new ≡ after buffer.old 0 (list_bytes size) }
 {
     if GREATEST_SIZE < size {
-        return Written::Bytes(0);
+        return Ok(0);
     }
     let entries = size as u8;
     let count = request_count(size) * (LEAD + ENTRY * entries) as usize;
     if buffer.len() < count {
-        return Written::Refused(Refusal::BufferShort);
+        return Err(Refusal::BufferShort);
     }
     let mut row = [0u8; ROW];
-    let second = write_direction(&mut *buffer, 0, &mut row, 0, entries);
-    write_direction(&mut *buffer, second, &mut row, 1, entries);
-    Written::Bytes(count)
+    let second = write_direction(&mut *buffer, 0, &mut row, UPRIGHT, entries);
+    write_direction(&mut *buffer, second, &mut row, INVERTED, entries);
+    Ok(count)
 }

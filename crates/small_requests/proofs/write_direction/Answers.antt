@@ -1,12 +1,12 @@
 use mathlib.Core.Path.{◌∙◌}
-use Prim.Native.Nat.{◌<◌, ◌+◌, ◌*◌}
+use Prim.Native.Nat.{◌+◌, ◌*◌}
 use native.Mathlib.Omega.{arith}
 use lib.ListN.{set}
 use Rattle.small_requests.proofs.Directions.{fronted, front_long, direct_begins, direct_room, direct_again, direct_ends}
 use Rattle.small_requests.proofs.write_direction.Goals as goal
 
-pub loop-listed-init : goal.loop-listed-init
-loop-listed-init c =
+pub loop-trees-init : goal.loop-trees-init
+loop-trees-init c =
     let a = c.args in
     let l = c.requires.row_len.0 in
     let row = set (set (set a.row.now 0 (3 + 3 * a.size)) 1 1) 2 a.direction in
@@ -14,13 +14,21 @@ loop-listed-init c =
     (front_long a.row.now (3 + 3 * a.size) 1 a.direction ∙ l)
 
 pub write_shapes-p-requires-clause-due_in_bounds : goal.write_shapes-p-requires-clause-due_in_bounds
-write_shapes-p-requires-clause-due_in_bounds c = direct_room c.loop-listed.invariant (omega arith)
+write_shapes-p-requires-clause-due_in_bounds c = direct_room c.loop-trees.invariant (omega arith) (omega arith)
 
-pub loop-listed-preserved : goal.loop-listed-preserved
-loop-listed-preserved c =
-    let h : c.loop-listed.listed < c.args.size = omega arith in
+pub loop-trees-preserved : goal.loop-trees-preserved
+loop-trees-preserved c =
     let e = c.write_shapes-p.ensures in
-    direct_again c.loop-listed.invariant h e.value e.buffer_value e.row_value c.write_shapes-p.auto.row
+    direct_again c.loop-trees.invariant (omega arith) (omega arith) (omega arith) e.value e.buffer_value e.row_value c.write_shapes-p.auto.row
 
+-- no tree count
 pub returns : goal.returns
-returns c = let e = direct_ends c.loop-listed.invariant c.loop-listed-test.false in record { value = e.0; buffer_value = e.1 }
+returns c = let e = direct_ends c.loop-trees.invariant (omega arith) in record { value = e.0; buffer_value = e.1 }
+
+-- after the last one
+pub returns-2 : goal.returns-2
+returns-2 c =
+    let w = c.write_shapes-p.ensures in
+    let d = direct_again c.loop-trees.invariant (omega arith) (omega arith) {again = c.args.size} (omega arith) w.value w.buffer_value w.row_value c.write_shapes-p.auto.row in
+    let e = direct_ends d (omega arith) in
+    record { value = e.0; buffer_value = e.1 }
