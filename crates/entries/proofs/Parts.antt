@@ -1,53 +1,110 @@
--- Laws of reading, in the code's terms: a number that may not be 0, and an entry.
-use mathlib.Core.Path.{◌≡◌, ap, sym, ◌∙◌}
-use mathlib.Core.List.{List}
-use Prim.Native.Nat.{ℕ}
-use lib.Dec.{eqb}
-use borrow.Author.Tests.{eq-eqb, ne_eqb}
-use Rattle.rules.specs.Answers.{Answer, answer, refused}
-use Rattle.rules.proofs.Answers.{then_answer, same_answer, peel}
-use Rattle.number.specs.Number.{Number, found, number_at}
+-- Laws of reading, in the code's terms: a number that may not be 0, and an entry by its three draws.
+use Rattle.std.proofs.Common.{◌≡◌, ℕ, List, Bool, true, false, cond, eqb, refl, ap, sym, ◌∙◌}
+use Rattle.rules.specs.Answers.{Answer, answer, refused, then}
+use Rattle.rules.proofs.Answers.{then_same}
+use Rattle.number.specs.declared.Number.{Number}
+use Rattle.number.specs.Number.{number_at}
+use Rattle.reader.specs.Drawing.{drawn, moved}
 use Rattle.request.specs.Reading.{positive_of, positive_at, entry_at}
+use Rattle.request.specs.declared.EntryRead.{EntryRead}
+use Rattle.entries.specs.Positive.{positive_value}
 
 -- ## A number that may not be 0
 
-module _ {drawn : Answer Number} {value next : ℕ} (h : found value next ≡ drawn) where
-  pub positive_zero : value ≡ 0 → refused 4 ≡ positive_of drawn
-  positive_zero z = rw (sym h, eq-eqb value 0 z)
+-- its value is the value drawn, judged
+pub positive_drawn : (a : Answer Number) → positive_value (drawn a) ≡ drawn (positive_of a)
+positive_drawn (refused n) = refl
+positive_drawn (answer n) = go (eqb n.value 0)
+  where
+    go : (b : Bool) → cond b (refused 4) (answer n.value) ≡ drawn (cond b (refused 4) (answer n))
+    go true = refl
+    go false = refl
 
-  pub positive_found : (value ≡ 0 → ⊥) → found value next ≡ positive_of drawn
-  positive_found z = rw (sym h, ne_eqb value 0 z)
+-- what comes after a number that may not be 0, by its value and the place after it
+after_positive : {B : Type 0} (a : Answer Number) (f : ℕ → ℕ → Answer B) → then (positive_of a) (λ n. f n.value n.next) ≡ then (positive_value (drawn a)) (λ v. f v (moved a))
+after_positive (refused n) f = refl
+after_positive (answer n) f = go (eqb n.value 0)
+  where
+    go : (b : Bool) → then (cond b (refused 4) (answer n)) (λ m. f m.value m.next) ≡ then (cond b (refused 4) (answer n.value)) (λ v. f v n.next)
+    go true = refl
+    go false = refl
 
-module _ (bytes : List ℕ) (at : ℕ) where
-  pub positive_at_lem : {drawn : Answer Number} → drawn ≡ number_at bytes at → positive_of drawn ≡ positive_at bytes at
-  unfolding positive_at
-  positive_at_lem h = ap positive_of h
-
-  -- it is the number that stands there
-  pub positive_number : {value next : ℕ} → found value next ≡ positive_at bytes at → found value next ≡ number_at bytes at
-  unfolding positive_at
-  positive_number h =
-      let a = then_answer (number_at bytes at) _ (sym h) in
-      sym (a.1 ∙ ap answer (same_answer (peel (eqb a.0.value 0) _ _ a.2).1))
+after_number : {B : Type 0} (a : Answer Number) (f : ℕ → ℕ → Answer B) → then a (λ n. f n.value n.next) ≡ then (drawn a) (λ v. f v (moved a))
+after_number (refused n) f = refl
+after_number (answer n) f = refl
 
 -- ## An entry
 
-module _ (bytes : List ℕ) (at : ℕ) where
-  pub entry_no_id : {n : ℕ} → refused n ≡ positive_at bytes at → refused n ≡ entry_at bytes at
-  unfolding entry_at
-  entry_no_id h = rw (sym h)
+-- the entry of three draws, each judged after all are drawn
+abbrev pub of_three : (first second third : Answer ℕ) (next : ℕ) → Answer EntryRead
+of_three first second third next =
+    then (positive_value first) λ id.
+    then (positive_value second) λ quota.
+    then third λ children. answer (record { id = id; quota = quota; children = children; next = next })
 
-  pub entry_no_quota : {id p n : ℕ} → found id p ≡ positive_at bytes at → refused n ≡ positive_at bytes p → refused n ≡ entry_at bytes at
-  unfolding entry_at
-  entry_no_quota h i = rw (sym h, sym i)
+three : (bytes : List ℕ) (at : ℕ)
+    → entry_at bytes at
+    ≡ (let a = number_at bytes at in
+    let b = number_at bytes (moved a) in
+    let c = number_at bytes (moved b) in
+    of_three (drawn a) (drawn b) (drawn c) (moved c))
+unfolding entry_at positive_at
+three bytes at =
+    let a = number_at bytes at in
+    let b = number_at bytes (moved a) in
+    after_positive a (λ id p. then (positive_of (number_at bytes p)) (λ quota. then (number_at bytes quota.next) (λ children.
+    answer (record { id = id; quota = quota.value; children = children.value; next = children.next }))))
+    ∙ then_same (positive_value (drawn a)) _ _ (λ id _.
+    after_positive b (λ quota q. then (number_at bytes q) (λ children. answer (record { id = id; quota = quota; children = children.value; next = children.next })))
+    ∙ then_same (positive_value (drawn b)) _ _ (λ quota _.
+    after_number (number_at bytes (moved b)) (λ children next. answer (record { id = id; quota = quota; children = children; next = next }))))
 
-  pub entry_no_children : {id p quota s n : ℕ} → found id p ≡ positive_at bytes at → found quota s ≡ positive_at bytes p → refused n ≡ number_at bytes s
-      → refused n ≡ entry_at bytes at
-  unfolding entry_at
-  entry_no_children h i j = rw (sym h, sym i, sym j)
+-- three draws from a place on, each with the place after it
+pub record Draws (bytes : List ℕ) (at : ℕ) (first second third : Answer ℕ) (next : ℕ) : Type 0 where
+  pub p : ℕ
+  pub q : ℕ
+  pub first_is : first ≡ drawn (number_at bytes at)
+  pub p_is : p ≡ moved (number_at bytes at)
+  pub second_is : second ≡ drawn (number_at bytes p)
+  pub q_is : q ≡ moved (number_at bytes p)
+  pub third_is : third ≡ drawn (number_at bytes q)
+  pub next_is : next ≡ moved (number_at bytes q)
 
-  pub entry_found : {id p quota s children next : ℕ} → found id p ≡ positive_at bytes at → found quota s ≡ positive_at bytes p
-      → found children next ≡ number_at bytes s
+-- by a reader that moves on over the same bytes
+pub draws : {bytes b₀ b₁ b₂ : List ℕ} {at a p q next : ℕ} {first second third : Answer ℕ} → b₀ ≡ bytes → a ≡ at
+    → first ≡ drawn (number_at b₀ a) → p ≡ moved (number_at b₀ a) → b₁ ≡ b₀
+    → second ≡ drawn (number_at b₁ p) → q ≡ moved (number_at b₁ p) → b₂ ≡ b₁
+    → third ≡ drawn (number_at b₂ q) → next ≡ moved (number_at b₂ q) → Draws bytes at first second third next
+draws {bytes} {b₁ = b₁} {b₂ = b₂} {at = at} {p = p} {q = q} x y f i u s j v t k =
+    let e : b₁ ≡ bytes = cc in
+    let g : b₂ ≡ bytes = cc in
+    record {
+      p = p;
+      q = q;
+      first_is = rw (x, y) at f;
+      p_is = rw (x, y) at i;
+      second_is = rw e at s;
+      q_is = rw e at j;
+      third_is = rw g at t;
+      next_is = rw g at k;
+    }
+
+module _ {bytes : List ℕ} {at : ℕ} {first second third : Answer ℕ} {next : ℕ} (d : Draws bytes at first second third next) where
+  entry_drawn : entry_at bytes at ≡ of_three first second third next
+  entry_drawn =
+      let qe = ap (λ x. moved (number_at bytes x)) d.p_is in
+      let t = three bytes at in
+      rw (d.next_is, d.third_is, d.q_is, d.second_is, d.p_is, d.first_is) t
+
+  pub no_id : {n : ℕ} → refused n ≡ positive_value first → refused n ≡ entry_at bytes at
+  no_id h = rw (entry_drawn, sym h)
+
+  pub no_quota : {id n : ℕ} → answer id ≡ positive_value first → refused n ≡ positive_value second → refused n ≡ entry_at bytes at
+  no_quota h i = rw (entry_drawn, sym h, sym i)
+
+  pub no_children : {id quota n : ℕ} → answer id ≡ positive_value first → answer quota ≡ positive_value second → refused n ≡ third → refused n ≡ entry_at bytes at
+  no_children h i j = rw (entry_drawn, sym h, sym i, sym j)
+
+  pub all_drawn : {id quota children : ℕ} → answer id ≡ positive_value first → answer quota ≡ positive_value second → answer children ≡ third
       → answer (record { id = id; quota = quota; children = children; next = next }) ≡ entry_at bytes at
-  unfolding entry_at
-  entry_found h i j = rw (sym h, sym i, sym j)
+  all_drawn h i j = rw (entry_drawn, sym h, sym i, sym j)

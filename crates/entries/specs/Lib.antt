@@ -1,1 +1,1 @@
-pub mod Says
+pub mod Positive
