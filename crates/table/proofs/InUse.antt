@@ -6,7 +6,8 @@ use Prim.Native.Nat.{ℕ, zero, suc, ◌+◌, ◌-◌, ◌≤◌, ◌<◌}
 use native.Mathlib.Omega.{arith}
 use lib.ListN.{length, take}
 use Rattle.std.proofs.lemmas.List.{length-take-le, get_or-take}
-use Rattle.table.specs.Columns.{Row, Columns, columns, row_at, rows_from, rows}
+use Rattle.table.specs.Columns.{Columns, columns, row_at, rows_from, rows}
+use Rattle.table.specs.declared.Row.{Row}
 use Rattle.table.specs.Inside.Held.{Holds}
 use Rattle.table.specs.InUse.{columns_of, rows_left}
 use Rattle.table.specs.declared.in_use.RowIter.{RowIter}

@@ -9,7 +9,8 @@ use lib.ListN.{length, length-append, length-drop, length-map}
 use borrow.Author.Tests.{eqb-true, eqb-false, ltb-false, ne_eqb, le-ltb}
 use Rattle.rules.specs.Limits.{most_rows}
 use Rattle.rules.proofs.Bools.{or_none, and_both, not_none}
-use Rattle.table.specs.Columns.{Row, Columns, overlay, put}
+use Rattle.table.specs.Columns.{Columns, overlay, put}
+use Rattle.table.specs.declared.Row.{Row}
 use Rattle.table.specs.Check.{lengths_bad, count_bad}
 use Rattle.table.specs.Sound.{Lengths}
 use Rattle.table.specs.Inside.Held.{Holds}

@@ -10,7 +10,8 @@ use Rattle.rules.specs.Refusals.{refusal_number}
 use Rattle.rules.specs.declared.Refusal.{Refusal}
 use Rattle.rules.proofs.Answers.{same_answer, peel, then_answer, then_refused, then_cond}
 use Rattle.rules.proofs.Bools.{or_none}
-use Rattle.table.specs.Columns.{Row, Columns, rows}
+use Rattle.table.specs.Columns.{Columns, rows}
+use Rattle.table.specs.declared.Row.{Row}
 use Rattle.table.specs.Check.{some_row, some_pair, lengths_bad, count_bad, in_use, value_bad, same_id, ranges_meet, sound_rows, checked}
 use Rattle.table.specs.Sound.{Lengths}
 use Rattle.table.specs.Inside.Held.{Holds}

@@ -5,7 +5,8 @@ use Prim.Native.Nat.{ℕ, zero, suc, ◌+◌, ◌-◌, ◌≤◌, ◌<◌}
 use native.Mathlib.Omega.{arith}
 use lib.ListN.{length, set, drop}
 use lib.Seq.{set_split}
-use Rattle.table.specs.Columns.{Row, Columns, columns, row_at, rows_from, rows, put}
+use Rattle.table.specs.Columns.{Columns, columns, row_at, rows_from, rows, put}
+use Rattle.table.specs.declared.Row.{Row}
 use Rattle.table.specs.Inside.Held.{Holds}
 
 -- some rows are the first of them and the others

@@ -13,7 +13,8 @@ use Rattle.boxes.specs.Boxes.{box_of, disjoint}
 use Rattle.boxes.specs.declared.Box.{Box}
 use Rattle.distinct.specs.Distinct.{none_is, all_differ}
 use Rattle.separate.specs.Separate.{boxes_of, none_meets, all_disjoint}
-use Rattle.table.specs.Columns.{Row, low_l, low_r, size_of, Columns, row_at, rows_from}
+use Rattle.table.specs.Columns.{low_l, low_r, size_of, Columns, row_at, rows_from}
+use Rattle.table.specs.declared.Row.{Row}
 use Rattle.table.specs.Check.{some_row, some_pair, same_id, ranges_meet}
 use Rattle.table.specs.InUse.{columns_of, rows_of}
 use Rattle.table.specs.declared.in_use.RowsInUse.{RowsInUse}

@@ -14,7 +14,8 @@ use Rattle.rules.proofs.Bools.{or_none, not_none}
 use Rattle.rules.proofs.Cases.{by_lt}
 use Rattle.coordinates.specs.Coordinates.{apart}
 use Rattle.coordinates.proofs.Ranges.{apart_clear, clear_apart}
-use Rattle.table.specs.Columns.{Row, low_l, size_of, Columns, row_at, rows}
+use Rattle.table.specs.Columns.{low_l, size_of, Columns, row_at, rows}
+use Rattle.table.specs.declared.Row.{Row}
 use Rattle.table.specs.Check.{some_row, some_pair, lengths_bad, value_bad, same_id, ranges_meet, checked}
 use Rattle.table.specs.Sound.{In, SoundRow, Apart, Lengths, Sound}
 use Rattle.table.proofs.Tests.{none_more, no_pair_more, some_found, pair_found, none_yet, no_pair_yet}

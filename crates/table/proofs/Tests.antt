@@ -4,7 +4,8 @@ use mathlib.Core.Bool.{Bool, true, false, ◌||◌, true≢false, or_assoc, or-f
 use mathlib.Core.List.{List, [], ◌∷◌, ◌++◌}
 use Prim.Native.Nat.{ℕ, ◌+◌, ◌-◌, ◌≤◌, ◌<◌}
 use native.Mathlib.Omega.{arith}
-use Rattle.table.specs.Columns.{Row, Columns, row_at, rows_from, rows}
+use Rattle.table.specs.Columns.{Columns, row_at, rows_from, rows}
+use Rattle.table.specs.declared.Row.{Row}
 use Rattle.table.specs.Check.{some_row, some_pair}
 use Rattle.table.proofs.Rows.{rows_more, rows_at}
 

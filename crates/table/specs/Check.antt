@@ -3,7 +3,8 @@ use Rattle.std.specs.Prelude.{ℕ, ◌+◌, ◌-◌, Bool, false, cond, not, ◌
 use Rattle.rules.specs.Answers.{Answer, answer, refused}
 use Rattle.rules.specs.Limits.{greatest, most_rows}
 use Rattle.coordinates.specs.Coordinates.{apart}
-use Rattle.table.specs.Columns.{Row, low_l, low_r, size_of, Columns, rows}
+use Rattle.table.specs.Columns.{low_l, low_r, size_of, Columns, rows}
+use Rattle.table.specs.declared.Row.{Row}
 
 -- the test holds of some row; of some row and one below it
 unfoldable pub some_row : (Row → Bool) → List Row → Bool

@@ -2,8 +2,7 @@
 use Rattle.std.specs.Prelude.{ℕ, zero, suc, List, [], ◌∷◌, ◌++◌, map, eqb, length, get_or, drop}
 use Rattle.rules.specs.Pick.{pick}
 use Rattle.rules.specs.Answers.{Answer, answer, refused, then}
--- a group's row: its id, its l-value, its r-value and its quota
-pub use Rattle.table.specs.declared.Row.{Row}
+use Rattle.table.specs.declared.Row.{Row}
 
 -- a group's box (RULES.md, 3): where its l range and its r range begin, and its size
 abbrev pub low_l : Row → ℕ

@@ -3,7 +3,8 @@ use Rattle.std.specs.Prelude.{◌≡◌, ℕ, ◌-◌, ◌≤◌, Result, Ok, Er
 use Rattle.rules.specs.Answers.{Answer, answer, refused}
 use Rattle.rules.specs.Refusals.{refusal_number}
 use Rattle.rules.specs.declared.Refusal.{Refusal}
-use Rattle.table.specs.Columns.{Row, Columns, columns, rows_from, rows}
+use Rattle.table.specs.Columns.{Columns, columns, rows_from, rows}
+use Rattle.table.specs.declared.Row.{Row}
 use Rattle.table.specs.declared.in_use.RowsInUse.{RowsInUse}
 use Rattle.table.specs.declared.in_use.RowIter.{RowIter}
 

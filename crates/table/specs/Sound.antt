@@ -1,7 +1,8 @@
 -- A sound table (RULES.md, 3), said of groups and ranges.
 use Rattle.std.specs.Prelude.{ℕ, ◌+◌, ◌-◌, ◌≤◌, ◌<◌, ◌≡◌, length}
 use Rattle.rules.specs.Limits.{greatest, most_rows}
-use Rattle.table.specs.Columns.{Row, low_l, low_r, size_of, Columns, row_at}
+use Rattle.table.specs.Columns.{low_l, low_r, size_of, Columns, row_at}
+use Rattle.table.specs.declared.Row.{Row}
 
 -- n is in the range from a to a + q − 1
 abbrev pub In : ℕ → ℕ → ℕ → Type 0

@@ -10,7 +10,7 @@ use Rattle.rules.specs.Limits.{greatest}
 use Rattle.rules.proofs.Cases.{by_lt, by_eq}
 use Rattle.coordinates.specs.Coordinates.{within}
 use Rattle.boxes.specs.Boxes.{contains, box_of}
-use Rattle.table.specs.Columns.{Row}
+use Rattle.table.specs.declared.Row.{Row}
 use Rattle.table.specs.Check.{value_bad}
 use Rattle.table.proofs.checking.value_bad.Goals as goal
 
