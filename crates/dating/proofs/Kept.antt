@@ -1,49 +1,54 @@
--- Days that are kept, where 0 is none: the lesser of two, and the test "reaches".
-use mathlib.Core.Path.{◌≡◌}
-use mathlib.Core.Bool.{true, false, not}
+-- Days that are kept, if any is: the lesser of one and another, and the test "reaches".
+use mathlib.Core.Path.{◌≡◌, refl, sym}
+use mathlib.Core.Bool.{true, false, true≢false}
 use Prim.Native.Nat.{ℕ, ◌+◌, min, ◌<◌, ◌≤◌}
 use native.Mathlib.Omega.{arith}
-use lib.Dec.{eqb}
-use borrow.Author.Tests.{eq-eqb, ne_eqb, eqb-false, le-leb, lt-leb, leb-true, leb-false, not-true}
-use Rattle.rules.proofs.Cases.{by_lt, by_eq}
-use Rattle.rules.proofs.Bools.{and_both}
+use borrow.Author.Tests.{lt-leb, leb-true, leb-false}
+use Rattle.std.specs.Prelude.{Option, Some, None, IfSome, IsSomeAnd}
+use Rattle.rules.proofs.Cases.{by_lt}
 use Rattle.unbroken.specs.Inside.Run.{earlier, follows_from, reaches}
 
--- the lesser of two days, where 0 is none, is one of them
-pub earlier_one : (P : ℕ → Type 0) (known day : ℕ) → (1 ≤ known → P known) → P day → P (earlier known day)
-unfolding earlier
-earlier_one P known day k p =
-    by_eq known 0
-    (λ e. rw (eq-eqb _ _ e) p)
-    (λ e. rw (ne_eqb _ _ e) (by_lt known day
-    (λ h. let m : min known day ≡ known = omega arith in rw m (k (omega (arith, e))))
-    (λ h. let m : min known day ≡ day = omega arith in rw m p)))
+-- what is there, with what holds of it
+pub with_some : {A C : Type 0} (P Q : A → Type 0) (o : Option A) → IsSomeAnd o P → IfSome o Q → ((x : A) → P x → Q x → C) → C
+with_some P Q None p q f = absurd p
+with_some P Q (Some x) p q f = f x p q
 
-pub earlier_min : (known day : ℕ) → 1 ≤ known → earlier known day ≡ min known day
+pub if_some : {A : Type 0} (P Q : A → Type 0) (o : Option A) → ((x : A) → P x → Q x) → IfSome o P → IfSome o Q
+if_some P Q None f p = p
+if_some P Q (Some x) f p = f x p
+
+-- the lesser of the day that is kept, if one is, and another is one of them
+pub earlier_one : (P : ℕ → Type 0) (known : Option ℕ) (day : ℕ) → IfSome known P → P day → P (earlier known day)
 unfolding earlier
-earlier_min known day h = rw (ne_eqb known 0 (λ e. omega (arith, h, e)))
+earlier_one P None day k p = p
+earlier_one P (Some known) day k p =
+    by_lt known day
+    (λ h. let m : min known day ≡ known = omega arith in rw m k)
+    (λ h. let m : min known day ≡ day = omega arith in rw m p)
 
 -- and no later than either
-pub earlier_least : (known day : ℕ) → 1 ≤ day → (1 ≤ earlier known day) × (earlier known day ≤ day) × (1 ≤ known → earlier known day ≤ known)
+pub earlier_day : (known : Option ℕ) (day : ℕ) → earlier known day ≤ day
 unfolding earlier
-earlier_least known day h =
-    by_eq known 0
-    (λ e. rw (eq-eqb _ _ e) (h, omega arith, λ k. absurd (omega (arith, e, k))))
-    (λ e. rw (ne_eqb _ _ e) (omega (arith, e), omega arith, λ k. omega arith))
+earlier_day None day = omega arith
+earlier_day (Some known) day = omega arith
+
+pub earlier_known : (known : Option ℕ) (day x : ℕ) → IsSomeAnd known (λ k. k ≤ x) → earlier known day ≤ x
+unfolding earlier
+earlier_known None day x k = absurd k
+earlier_known (Some known) day x k = omega (arith, k)
 
 -- what the test "reaches" says
-pub reaches_true : (u d : ℕ) → reaches u d ≡ true → (1 ≤ d) × (d ≤ u + 1)
+pub reaches_true : (u : ℕ) (o : Option ℕ) → reaches u o ≡ true → IsSomeAnd o (λ d. d ≤ u + 1)
 unfolding reaches follows_from
-reaches_true u d e = let a = and_both (not (eqb d 0)) _ e in let z = eqb-false d 0 (not-true _ a.0) in (omega (arith, z), leb-true _ _ a.1)
+reaches_true u None e = absurd (true≢false (sym e))
+reaches_true u (Some d) e = leb-true _ _ e
 
-pub reaches_false : (u d : ℕ) → reaches u d ≡ false → 1 ≤ d → u + 1 < d
+pub reaches_false : (u : ℕ) (o : Option ℕ) → reaches u o ≡ false → IfSome o (λ d. u + 1 < d)
 unfolding reaches follows_from
-reaches_false u d e h = leb-false _ _ (rw (ne_eqb d 0 (λ z. omega (arith, h, z))) at e)
+reaches_false u None e = tt
+reaches_false u (Some d) e = leb-false _ _ e
 
-pub reaches_past : (u d : ℕ) → (1 ≤ d → u + 1 < d) → reaches u d ≡ false
+pub reaches_past : (u : ℕ) (o : Option ℕ) → IfSome o (λ d. u + 1 < d) → reaches u o ≡ false
 unfolding reaches follows_from
-reaches_past u d h = by_eq d 0 (λ z. rw (eq-eqb _ _ z)) (λ z. rw (ne_eqb _ _ z) (lt-leb _ _ (h (omega (arith, z)))))
-
-pub reaches_by : (u d : ℕ) → 1 ≤ d → d ≤ u + 1 → reaches u d ≡ true
-unfolding reaches follows_from
-reaches_by u d h k = rw (ne_eqb d 0 (λ z. omega (arith, h, z))) (le-leb _ _ k)
+reaches_past u None h = refl
+reaches_past u (Some d) h = lt-leb _ _ h

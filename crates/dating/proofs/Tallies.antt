@@ -4,9 +4,9 @@ use mathlib.Core.Bool.{true, or-true}
 use mathlib.Core.List.{List, [], ◌∷◌}
 use mathlib.Core.Logic.{◌≢◌}
 use Prim.Native.Nat.{ℕ, ◌≤◌}
-use native.Mathlib.Omega.{arith}
 use borrow.Author.Tests.{eq-eqb, ne_eqb}
 use Rattle.rules.proofs.Cases.{by_eq}
+use Rattle.std.specs.Prelude.{Option, Some, IfSome, IsSomeAnd}
 use Rattle.matching.specs.Matching.{Window}
 use Rattle.matching.proofs.Windows.{Right, AllRight}
 use Rattle.renewals.specs.Dating.{is_open, runs}
@@ -15,13 +15,10 @@ use Rattle.renewals.proofs.Days.{runs_from, runs_open}
 use Rattle.renewals.proofs.Later.{First, first_here, first_there}
 use Rattle.unbroken.specs.Inside.Run.{earlier, carry}
 use Rattle.unbroken.specs.declared.Run.{Run}
-use Rattle.dating.specs.Inside.Tally.{tally, run_with, open_with, count_in, counted_in}
+use Rattle.dating.specs.Inside.Tally.{run_with, open_with, count_in, counted_in}
 use Rattle.dating.specs.declared.Tally.{Tally}
-use Rattle.dating.proofs.Kept.{earlier_one, earlier_least}
+use Rattle.dating.proofs.Kept.{earlier_one, earlier_day, earlier_known}
 use Rattle.dating.proofs.Runs.{Settled, Closed, Fair, carry_fair, carry_settled}
-
-pub same_tally : {r r' : Run} {a a' b b' d d' : ℕ} → r ≡ r' → a ≡ a' → b ≡ b' → d ≡ d' → tally r a b d ≡ tally r' a' b' d'
-same_tally e f g h = cc
 
 abbrev pub Every : (Window → Type 0) → List Window → Type 0
 Every P [] = Unit {0}
@@ -47,48 +44,47 @@ module _ (all : List Window) where
   )
 
   -- a window was counted in: an open one begins no earlier than the least first day of these, a closed one is settled
-  abbrev pub Seen : Run → ℕ → Window → Type 0
-  Seen r o w = (w.last ≡ 0 → (1 ≤ o) × (o ≤ w.first)) × (w.last ≢ 0 → Settled r w)
+  abbrev pub Seen : Run → Option ℕ → Window → Type 0
+  Seen r o w = (w.last ≡ 0 → IsSomeAnd o (λ d. d ≤ w.first)) × (w.last ≢ 0 → Settled r w)
 
   module _ (day s : ℕ) where
     -- a reading so far
-    pub record Good (r : Run) (o : ℕ) : Type 0 where
+    pub record Good (r : Run) (o : Option ℕ) : Type 0 where
       pub fair : Fair Covered (First all) day s r
-      pub endlessly : 1 ≤ o → (d : ℕ) → o ≤ d → Covered d
+      pub endlessly : IfSome o (λ f. (d : ℕ) → f ≤ d → Covered d)
 
-    record Step (r : Run) (o : ℕ) (w : Window) (r' : Run) (o' : ℕ) : Type 0 where
+    record Step (r : Run) (o : Option ℕ) (w : Window) (r' : Run) (o' : Option ℕ) : Type 0 where
       good : Good r' o'
       here : Seen r' o' w
       kept : (v : Window) → Seen r o v → Seen r' o' v
 
-    step : (r : Run) (o : ℕ) (w : Window) → Member w → Good r o → Step r o w (run_with r w) (open_with o w)
+    step : (r : Run) (o : Option ℕ) (w : Window) → Member w → Good r o → Step r o w (run_with r w) (open_with o w)
     unfolding run_with open_with is_open
     step r o w m g = by_eq w.last 0 (λ z. rw (eq-eqb _ _ z) (opened z)) (λ z. rw (ne_eqb _ _ z) (closed z))
       where
-        opened : w.last ≡ 0 → Step r o w r (earlier o w.first)
+        opened : w.last ≡ 0 → Step r o w r (Some (earlier o w.first))
         opened z =
-            let l = earlier_least o w.first m.right.begins in
             record {
               good = record {
                 fair = g.fair;
-                endlessly = λ _. earlier_one (λ (e : ℕ). (d : ℕ) → e ≤ d → Covered d) o w.first g.endlessly (λ d h. m.covers d (runs_open d w h z));
+                endlessly = earlier_one (λ (f : ℕ). (d : ℕ) → f ≤ d → Covered d) o w.first g.endlessly (λ d h. m.covers d (runs_open d w h z));
               };
-              here = (λ _. (l.0, l.1), λ n. absurd (n z));
-              kept = λ v k. (λ e. let a = k.0 e in (l.0, omega (arith, l.2 a.0, a.1)), k.1);
+              here = (λ _. earlier_day o w.first, λ n. absurd (n z));
+              kept = λ v k. (λ e. earlier_known o w.first v.first (k.0 e), k.1);
             }
 
         closed : w.last ≢ 0 → Step r o w (carry r w) o
         closed z =
             let c : Closed Covered (First all) w = record { closed = z; right = m.right.ends z; covers = λ d a b. m.covers d (runs_from d w a z b); begins = m.begins } in
-            let e = carry_settled Covered (First all) day s r w c g.fair in
+            let e = carry_settled r.until r.left w r.stretch in
             record {
-              good = record { fair = carry_fair Covered (First all) day s r w c g.fair; endlessly = g.endlessly };
+              good = record { fair = carry_fair Covered (First all) day s r.until r.stretch r.left w c g.fair; endlessly = g.endlessly };
               here = (λ n. absurd (z n), λ _. e.0);
               kept = λ v k. (k.0, λ n. e.1 v (k.1 n));
             }
 
     -- a whole reading
-    pub record Whole (ws : List Window) (r : Run) (o : ℕ) (r' : Run) (o' : ℕ) : Type 0 where
+    pub record Whole (ws : List Window) (r : Run) (o : Option ℕ) (r' : Run) (o' : Option ℕ) : Type 0 where
       pub good : Good r' o'
       pub seen : Every (Seen r' o') ws
       pub kept : (v : Window) → Seen r o v → Seen r' o' v

@@ -1,14 +1,18 @@
--- What each case of the answer says: the values, or the number of the refusal (RULES.md, 12).
-use Rattle.rules.specs.Answers.{Answer, answer, refused}
-use Rattle.rules.specs.Refusals.{refusal_number}
+-- What each case of the decision says (RULES.md, 10), and what a call that decides says.
+use Rattle.std.specs.Prelude.{Result}
+use Rattle.rules.specs.Answers.{Answer, answer, then}
+use Rattle.rules.specs.Says.{says}
+use Rattle.rules.specs.declared.Refusal.{Refusal}
 use Rattle.renewals.specs.Dating.{Decision, on_open, on_until, ended, ahead, never}
 use Rattle.dating.specs.declared.Decided.{Decided}
 use Rattle.dating.specs.declared.Decided.TheVariants as decided
 
-abbrev pub decided_says : Decided → Answer Decision
-decided_says decided.OnOpen = answer on_open
-decided_says (decided.OnUntil day) = answer (on_until day)
-decided_says (decided.Ended day) = answer (ended day)
-decided_says (decided.Ahead day) = answer (ahead day)
-decided_says decided.Never = answer never
-decided_says (decided.Refused why) = refused (refusal_number why)
+abbrev pub decision_says : Decided → Decision
+decision_says decided.OnOpen = on_open
+decision_says (decided.OnUntil day) = on_until day
+decision_says (decided.Ended day) = ended day
+decision_says (decided.Ahead day) = ahead day
+decision_says decided.Never = never
+
+abbrev pub decided_says : Result Decided Refusal → Answer Decision
+decided_says result = then (says result) λ decided. answer (decision_says decided)

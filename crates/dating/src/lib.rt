@@ -3,12 +3,12 @@
 #![tactic(auto)]
 
 ghost use Rattle.std.specs.Prelude.{◌≡◌, ◌-◌};
-ghost use Rattle.rules.specs.Answers.{answer};
-ghost use Rattle.dating.specs.Says.{decided_says};
-ghost use Rattle.dating.specs.Inside.Tally.{run_with, open_with, over_with, coming_with, count_in, endless, unsettled, unread, again, decision_of};
+ghost use Rattle.renewals.specs.Dating.{is_open, has_ended, yet_to_begin};
+ghost use Rattle.dating.specs.Says.{decision_says};
+ghost use Rattle.dating.specs.Inside.Tally.{latest, run_with, open_with, over_with, coming_with, count_in, endless, unsettled, unread, again, decision_of};
 
-use rules::Refusal;
-use unbroken::{Run, carry, greater, lesser, reaches};
+use matching::Window;
+use unbroken::{Run, earlier, reaches};
 
 // What is decided on a feature.
 #[derive(Clone, Copy)]
@@ -22,145 +22,167 @@ pub enum Decided {
     // Yet to begin, and the first day.
     Ahead(u32),
     Never,
-    Refused(Refusal),
 }
 
-// What is kept of the windows. A day 0 stands for none: the days that are kept here are 1 or more.
+// What is kept of the windows.
 #[derive(Clone, Copy)]
 pub struct Tally {
     // The run of days, as the closed ones carry it.
     run: Run,
     // The least first day of the open ones.
-    open_from: u32,
+    open_from: Option<u32>,
     // The greatest last day of those that have ended.
-    over: u32,
+    over: Option<u32>,
     // The least first day of those that have yet to begin.
-    coming: u32,
+    coming: Option<u32>,
 }
 
-fn run_with(r: Run, first: u32, last: u32) -> Run
-    ensures { result ≡ run_with r (record { first = first; last = last }) }
+#[tactic(auto, unfolding(renewals::specs::Dating::is_open))]
+fn is_open(w: Window) -> bool
+    ensures { result ≡ is_open w }
 {
-    if last == 0 {
-        return r;
-    }
-    carry(r, first, last)
+    w.last == 0
 }
 
-fn open_with(known: u32, first: u32, last: u32) -> u32
-    ensures { result ≡ open_with known (record { first = first; last = last }) }
+#[tactic(auto, unfolding(renewals::specs::Dating::has_ended))]
+fn has_ended(day: u32, w: Window) -> bool
+    ensures { result ≡ has_ended day w }
 {
-    if last == 0 {
-        return lesser(known, first);
+    !is_open(w) & (w.last < day)
+}
+
+#[tactic(auto, unfolding(renewals::specs::Dating::yet_to_begin))]
+fn yet_to_begin(day: u32, w: Window) -> bool
+    ensures { result ≡ yet_to_begin day w }
+{
+    day < w.first
+}
+
+// The greater of the day that is kept, if one is, and another.
+#[tactic(auto, unfolding(crate::specs::Inside::Tally::latest))]
+fn latest(known: Option<u32>, day: u32) -> u32
+    ensures { result ≡ latest known day }
+{
+    known.map_or(day, |known| known.max(day))
+}
+
+#[tactic(auto, unfolding(crate::specs::Inside::Tally::run_with))]
+fn run_with(r: Run, w: Window) -> Run
+    ensures { result ≡ run_with r w }
+{
+    if is_open(w) { r } else { r.carry(w) }
+}
+
+#[tactic(auto, unfolding(crate::specs::Inside::Tally::open_with))]
+fn open_with(known: Option<u32>, w: Window) -> Option<u32>
+    ensures { result ≡ open_with known w }
+{
+    if is_open(w) {
+        return Some(earlier(known, w.first));
     }
     known
 }
 
-fn over_with(day: u32, known: u32, first: u32, last: u32) -> u32
-    ensures { result ≡ over_with day known (record { first = first; last = last }) }
+#[tactic(auto, unfolding(crate::specs::Inside::Tally::over_with))]
+fn over_with(day: u32, known: Option<u32>, w: Window) -> Option<u32>
+    ensures { result ≡ over_with day known w }
 {
-    if last < day {
-        return greater(known, last);
+    if has_ended(day, w) {
+        return Some(latest(known, w.last));
     }
     known
 }
 
-fn coming_with(day: u32, known: u32, first: u32, last: u32) -> u32
-    ensures { result ≡ coming_with day known (record { first = first; last = last }) }
+#[tactic(auto, unfolding(crate::specs::Inside::Tally::coming_with))]
+fn coming_with(day: u32, known: Option<u32>, w: Window) -> Option<u32>
+    ensures { result ≡ coming_with day known w }
 {
-    if day < first {
-        return lesser(known, first);
+    if yet_to_begin(day, w) {
+        return Some(earlier(known, w.first));
     }
     known
 }
 
-// One more window, counted in.
-pub fn count_in(day: u32, t: Tally, first: u32, last: u32) -> Tally
-    ensures { result ≡ count_in day t (record { first = first; last = last }) }
-{
-    Tally {
-        run: run_with(t.run, first, last),
-        open_from: open_with(t.open_from, first, last),
-        over: over_with(day, t.over, first, last),
-        coming: coming_with(day, t.coming, first, last),
+impl Tally {
+    // Before the first reading the day itself is left out, so that one is needed.
+    #[tactic(auto, unfolding(crate::specs::Inside::Tally::unread))]
+    pub fn unread(day: u32) -> Tally
+        ensures { result ≡ unread day }
+    {
+        Tally {
+            run: Run {
+                until: day.saturating_sub(1),
+                stretch: None,
+                left: Some(day),
+            },
+            open_from: None,
+            over: None,
+            coming: None,
+        }
     }
-}
 
-// The run meets an open window.
-fn endless(t: Tally) -> bool
-    ensures { result ≡ endless t }
-{
-    reaches(t.run.until, t.open_from)
-}
+    // Before another reading nothing is left out yet.
+    #[tactic(auto, unfolding(crate::specs::Inside::Tally::again))]
+    pub fn again(self) -> Tally
+        ensures { result ≡ again self }
+    {
+        Tally {
+            run: Run {
+                until: self.run.until,
+                stretch: None,
+                left: None,
+            },
+            ..self
+        }
+    }
 
-// Another reading is needed: a window that was left out follows on from the run by now.
-pub fn unsettled(t: Tally) -> bool
-    ensures { result ≡ unsettled t }
-{
-    if endless(t) {
-        return false;
+    // One more window, counted in.
+    #[tactic(auto, unfolding(crate::specs::Inside::Tally::count_in))]
+    pub fn count_in(self, day: u32, w: Window) -> Tally
+        ensures { result ≡ count_in day self w }
+    {
+        Tally {
+            run: run_with(self.run, w),
+            open_from: open_with(self.open_from, w),
+            over: over_with(day, self.over, w),
+            coming: coming_with(day, self.coming, w),
+        }
     }
-    reaches(t.run.until, t.run.left)
-}
 
-fn day_before(day: u32) -> u32
-    ensures { result ≡ day - 1 }
-{
-    if day == 0 {
-        return 0;
+    // The run meets an open window.
+    #[tactic(auto, unfolding(crate::specs::Inside::Tally::endless))]
+    fn endless(self) -> bool
+        ensures { result ≡ endless self }
+    {
+        reaches(self.run.until, self.open_from)
     }
-    day - 1
-}
 
-// Before the first reading the day itself is left out, so that one is needed.
-pub fn unread(day: u32) -> Tally
-    ensures { result ≡ unread day }
-{
-    Tally {
-        run: Run {
-            until: day_before(day),
-            from: 0,
-            to: 0,
-            left: day,
-        },
-        open_from: 0,
-        over: 0,
-        coming: 0,
+    // Another reading is needed: a window that was left out follows on from the run by now.
+    #[tactic(auto, unfolding(crate::specs::Inside::Tally::unsettled))]
+    pub fn unsettled(self) -> bool
+        ensures { result ≡ unsettled self }
+    {
+        if self.endless() {
+            return false;
+        }
+        reaches(self.run.until, self.run.left)
     }
-}
 
-// Before another reading nothing is left out yet.
-pub fn again(t: Tally) -> Tally
-    ensures { result ≡ again t }
-{
-    Tally {
-        run: Run {
-            until: t.run.until,
-            from: 0,
-            to: 0,
-            left: 0,
-        },
-        open_from: t.open_from,
-        over: t.over,
-        coming: t.coming,
+    // What the tally says in the end.
+    #[tactic(auto, unfolding(crate::specs::Inside::Tally::decision_of))]
+    pub fn decision_of(self, day: u32) -> Decided
+        ensures { decision_says result ≡ decision_of day self }
+    {
+        if self.endless() {
+            return Decided::OnOpen;
+        }
+        if day <= self.run.until {
+            return Decided::OnUntil(self.run.until);
+        }
+        match (self.over, self.coming) {
+            (Some(day), _) => Decided::Ended(day),
+            (None, Some(day)) => Decided::Ahead(day),
+            (None, None) => Decided::Never,
+        }
     }
-}
-
-// What the tally says in the end.
-pub fn decision_of(day: u32, t: Tally) -> Decided
-    ensures { decided_says result ≡ answer (decision_of day t) }
-{
-    if endless(t) {
-        return Decided::OnOpen;
-    }
-    if day <= t.run.until {
-        return Decided::OnUntil(t.run.until);
-    }
-    if 0 < t.over {
-        return Decided::Ended(t.over);
-    }
-    if 0 < t.coming {
-        return Decided::Ahead(t.coming);
-    }
-    Decided::Never
 }

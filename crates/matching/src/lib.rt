@@ -3,10 +3,25 @@
 
 ghost use Rattle.std.specs.Prelude.{◌≡◌};
 ghost use Rattle.grant.specs.Says.{grant_of};
-ghost use Rattle.matching.specs.Matching.{pass_bad, covers, applies_to};
+ghost use Rattle.matching.specs.Matching.{pass_bad, pass, covers, applies_to, window};
 
 use coordinates::{LValue, RValue};
 use grant::Grant;
+
+// A pass: it stands at a group's numbers.
+#[derive(Clone, Copy)]
+pub struct Pass {
+    pub l: LValue,
+    pub r: RValue,
+}
+
+// The days of a grant.
+#[derive(Clone, Copy)]
+pub struct Window {
+    pub first: u32,
+    // 0 means open, without an end: the bytes of a grant say it so.
+    pub last: u32,
+}
 
 // 15, without a feature: pass l or r, or day is 0.
 pub fn pass_bad(l: u32, r: u32, day: u32) -> bool
@@ -15,16 +30,39 @@ pub fn pass_bad(l: u32, r: u32, day: u32) -> bool
     (l == 0) | ((r == 0) | (day == 0))
 }
 
-// A grant covers a pass (l, r), whatever its feature: the pass stands at or below its numbers.
-pub fn covers(l: LValue, r: RValue, g: Grant) -> bool
-    ensures { result ≡ covers l.0 r.0 (grant_of g) }
-{
-    l.at_most(g.l) & r.at_most(g.r)
+impl Pass {
+    pub fn new(l: u32, r: u32) -> Pass
+        ensures { result ≡ pass l r }
+    {
+        Pass {
+            l: LValue::new(l as u64),
+            r: RValue::new(r as u64),
+        }
+    }
+
+    // A grant covers the pass, whatever its feature: the pass stands at or below its numbers.
+    pub fn covered_by(self, g: Grant) -> bool
+        ensures { result ≡ covers self.l.0 self.r.0 (grant_of g) }
+    {
+        self.l.at_most(g.l) & self.r.at_most(g.r)
+    }
+
+    // A grant applies to the pass and a feature.
+    #[tactic(auto, unfolding(crate::specs::Matching::applies_to))]
+    pub fn granted(self, feature: u32, g: Grant) -> bool
+        ensures { result ≡ applies_to feature self.l.0 self.r.0 (grant_of g) }
+    {
+        (g.feature == feature) & self.covered_by(g)
+    }
 }
 
-// A grant applies to a pass (l, r) and a feature.
-pub fn applies(feature: u32, l: LValue, r: RValue, g: Grant) -> bool
-    ensures { result ≡ applies_to feature l.0 r.0 (grant_of g) }
-{
-    (g.feature == feature) & covers(l, r, g)
+impl From<Grant> for Window {
+    ghost from_gives = { λ g w. w ≡ window (grant_of g) };
+
+    fn from(g: Grant) -> Window {
+        Window {
+            first: g.first,
+            last: g.last,
+        }
+    }
 }
