@@ -1,137 +1,103 @@
-// What the test programs print: answers, buffers and columns, as text to a writer. What only prints has nothing to say.
+// What the test programs share: the run over a script, and what they print of answers, buffers and columns. What only prints has nothing
+// to say.
 #![tactic(auto)]
 
 ghost use Rattle.std.specs.Prelude.{◌≡◌, ◌≤◌, length, replicate};
-ghost use Rattle.show.specs.Shown.{used_of, between_of, rows_of};
+ghost use Rattle.show.specs.Shown.{used_of, between_of};
 
-use number::Written;
 use rules::Refusal;
-use std::io;
-use std::io::Write;
-use table::Counted;
+use std::io::{Read, Write};
+use std::{fmt, io};
 
-// What a call answers. The first ones have a value.
-const REFUSED: usize = 0;
+// How many bytes of input are read.
+const MOST_BYTES: u64 = 65536;
 
-const COUNT: usize = 1;
-
-pub const BYTES: usize = 2;
-
-pub const NUMBER: usize = 3;
-
-pub const ON: usize = 4;
-
-pub const ENDED: usize = 5;
-
-pub const AHEAD: usize = 6;
-
-const VALUES: usize = 7;
-
-pub const OPEN: usize = 7;
-
-pub const NEVER: usize = 8;
-
-pub const SOUND: usize = 9;
-
-pub const SAME: usize = 10;
-
-pub const FIRST: usize = 11;
-
-pub const SECOND: usize = 12;
-
-pub const INCOMPARABLE: usize = 13;
-
-pub const YES: usize = 14;
-
-pub const NOT: usize = 15;
-
-pub const PARTS: usize = 16;
-
-pub const NONE: usize = 17;
-
-pub const NO_ROOM: usize = 18;
-
-pub fn text<W: Write>(out: &mut W, t: &[u8]) -> io::Result<()> {
-    out.write_all(t)
-}
-
-pub fn byte<W: Write>(out: &mut W, b: u8) -> io::Result<()> {
-    let t = [b];
-    out.write_all(&t)
-}
-
-// A number after a byte.
-pub fn number<W: Write>(out: &mut W, b: u8, n: u64) -> io::Result<()> {
-    byte(out, b)?;
-    write!(out, "{n}")
-}
-
-// The word with so many before it.
-fn word<W: Write>(out: &mut W, words: &[u8], before: usize) -> io::Result<()> {
-    let mut left = before;
-    let mut i = 0;
-    while i < words.len() {
-        let c = words[i];
-        i += 1;
-        if c == b',' {
-            if left == 0 {
-                return Ok(());
-            }
-            left -= 1;
-        } else if left == 0 {
-            byte(out, c)?;
-        }
-    }
-    Ok(())
-}
-
-pub fn answer<W: Write>(out: &mut W, kind: usize, value: u64) -> io::Result<()> {
-    word(
-        out,
-        b": no,: count,: bytes,: number,: on,: ended,: ahead,: on open,: never,: sound,: same,: first,: second,: incomparable,: yes,: not,: parts,: none,: no room",
-        kind,
-    )?;
-    if kind < VALUES {
-        return number(out, b' ', value);
-    }
-    Ok(())
-}
-
-pub fn refused<W: Write>(out: &mut W, why: Refusal) -> io::Result<()> {
-    answer(out, REFUSED, why.number() as u64)
-}
-
-pub fn counted<W: Write>(out: &mut W, c: Counted) -> io::Result<()> {
-    match c {
-        Counted::Count(n) => answer(out, COUNT, n as u64),
-        Counted::Refused(why) => refused(out, why),
-    }
-}
-
-pub fn written<W: Write>(out: &mut W, w: Written) -> io::Result<()> {
-    match w {
-        Written::Bytes(n) => answer(out, BYTES, n as u64),
-        Written::Refused(why) => refused(out, why),
-    }
-}
-
-fn hexadecimal<W: Write>(out: &mut W, b: u8) -> io::Result<()> {
-    write!(out, " {b:02x}")
-}
-
-// Where the EE at the end begin.
-fn used(s: &[u8]) -> usize
-    ensures upper_bound { result ≤ length s.now }
-    ensures value { result ≡ used_of (length s.now) s.now }
+// Prints each line of a script that is read, with what its call prints. Text after the last line feed is no line. A call asks nothing of
+// a line.
+pub fn run<F: Fn(&mut Vec<u8>, &[u8]) -> io::Result<()>>(
+    rt: &HostRuntime,
+    call: F,
+) -> io::Result<()>
+    requires { F.IsAlwaysCallable call }
 {
-    let mut n = s.len();
-    while n > 0 {
-        if s[n - 1] != 0xEE {
-            return n;
+    let mut script = Vec::new(rt.alloc());
+    rt.stdin().take(MOST_BYTES).read_to_end(&mut script)?;
+    let mut out = Vec::new(rt.alloc());
+    for piece in script.split_inclusive(|c| *c == b'\n') {
+        if let Some(line) = piece.strip_suffix(b"\n") {
+            out.extend_from_slice(line)?;
+            call(&mut out, line)?;
+            out.push(b'\n')?;
         }
-        n -= 1;
     }
-    0
+    rt.write_all(&out)
+}
+
+// What a call answers.
+#[derive(Clone, Copy)]
+pub enum Shown {
+    Refused(Refusal),
+    Count(usize),
+    Bytes(usize),
+    Number(u32),
+    On(u32),
+    Ended(u32),
+    Ahead(u32),
+    Open,
+    Never,
+    Sound,
+    Same,
+    First,
+    Second,
+    Incomparable,
+    Yes,
+    Not,
+    Parts,
+    None,
+    // No refusal, and so without a number.
+    NoRoom,
+}
+
+impl Shown {
+    pub fn counted(answer: Result<usize, Refusal>) -> Shown {
+        answer.map_or_else(Shown::Refused, Shown::Count)
+    }
+
+    pub fn written(answer: Result<usize, Refusal>) -> Shown {
+        answer.map_or_else(Shown::Refused, Shown::Bytes)
+    }
+}
+
+impl From<bool> for Shown {
+    fn from(yes: bool) -> Shown {
+        if yes { Shown::Yes } else { Shown::Not }
+    }
+}
+
+impl fmt::Display for Shown {
+    fn fmt<W: fmt::Write>(&self, f: &mut fmt::Formatter<W>) -> fmt::Result {
+        match *self {
+            Shown::Refused(why) => write!(f, ": no {}", why.number()),
+            Shown::Count(n) => write!(f, ": count {n}"),
+            Shown::Bytes(n) => write!(f, ": bytes {n}"),
+            Shown::Number(n) => write!(f, ": number {n}"),
+            Shown::On(day) => write!(f, ": on {day}"),
+            Shown::Ended(day) => write!(f, ": ended {day}"),
+            Shown::Ahead(day) => write!(f, ": ahead {day}"),
+            Shown::Open => f.write_str(": on open"),
+            Shown::Never => f.write_str(": never"),
+            Shown::Sound => f.write_str(": sound"),
+            Shown::Same => f.write_str(": same"),
+            Shown::First => f.write_str(": first"),
+            Shown::Second => f.write_str(": second"),
+            Shown::Incomparable => f.write_str(": incomparable"),
+            Shown::Yes => f.write_str(": yes"),
+            Shown::Not => f.write_str(": not"),
+            Shown::Parts => f.write_str(": parts"),
+            Shown::None => f.write_str(": none"),
+            Shown::NoRoom => f.write_str(": no room"),
+        }
+    }
 }
 
 // A buffer before it is written into.
@@ -142,101 +108,87 @@ pub fn unwritten() -> [u8; 65536]
     [0xEE; 65536]
 }
 
-// So many of a buffer's bytes as text, or all in hexadecimal but the EE at its end, which are counted.
-fn buffer<W: Write>(out: &mut W, s: &[u8], as_text: usize) -> io::Result<()> {
-    let n = used(s);
-    let mut i = as_text;
-    while i < n {
-        hexadecimal(out, s[i])?;
-        i += 1;
-    }
-    number(out, b'+', (s.len() - n) as u64)?;
-    if 0 < as_text && as_text <= s.len() {
-        byte(out, b'\n')?;
-        text(out, &s[0..as_text])?;
-    }
-    Ok(())
-}
-
-pub fn whole<W: Write>(out: &mut W, s: &[u8; 65536], as_text: usize) -> io::Result<()> {
-    buffer(out, s, as_text)
-}
-
-fn wide(n: u32) -> u64
-    ensures { result ≡ n }
+// Where the EE at the end begin.
+#[tactic(auto, using(crate::proofs::Laws::used_none, crate::proofs::Laws::used_here, crate::proofs::Laws::used_before))]
+fn used(s: &[u8]) -> usize
+    ensures upper_bound { result ≤ length s.now }
+    ensures value { result ≡ used_of (length s.now) s.now }
 {
-    n as u64
+    for i in (0..s.len()).rev() {
+        if s[i] != 0xEE {
+            return i + 1;
+        }
+    }
+    0
+}
+
+// So many of a buffer's bytes as text, or all in hexadecimal but the EE at its end, which are counted.
+pub fn buffer<W: Write>(out: &mut W, s: &[u8], as_text: usize) -> io::Result<()> {
+    let n = used(s);
+    for b in s[..n].iter().skip(as_text) {
+        write!(out, " {b:02x}")?;
+    }
+    write!(out, "+{}", s.len() - n)?;
+    match s.get(..as_text) {
+        Some(text) if !text.is_empty() => {
+            out.write_all(b"\n")?;
+            out.write_all(text)
+        }
+        _ => Ok(()),
+    }
 }
 
 // A number stands between two that are equal to it, or one less and one more.
-fn between(before: u64, here: u64, after: u64) -> bool
+#[tactic(auto, unfolding(crate::specs::Shown::between_of))]
+fn between(before: Option<u32>, here: u32, after: Option<u32>) -> bool
     ensures { result ≡ between_of before here after }
 {
-    let next = std::num::wrapping_add_u64(here, 1);
-    let up = std::num::wrapping_add_u64(before, 1);
-    let down = std::num::wrapping_add_u64(after, 1);
-    (before == here) & (here == after)
-        | (up == here) & (next == after)
-        | (down == here) & (next == before)
-}
-
-// A number of a column, or the end of a run of which some were left out: `a-b`, or `a*n`.
-fn last<W: Write>(out: &mut W, left_out: u64, before: u64, n: u64) -> io::Result<()> {
-    if left_out == 0 {
-        number(out, b' ', n)
-    } else if before == n {
-        number(out, b'*', std::num::wrapping_add_u64(left_out, 2))
-    } else {
-        number(out, b'-', n)
+    match (before, after) {
+        (Some(a), Some(b)) => {
+            let (a, n, b) = (u64::from(a), u64::from(here), u64::from(b));
+            a == n && n == b || a + 1 == n && n + 1 == b || b + 1 == n && n + 1 == a
+        }
+        _ => false,
     }
 }
 
-// How many rows a column has, as its last cell says.
-pub fn rows(n: u32) -> usize
-    ensures upper_bound { result ≤ 257 }
-    ensures value { result ≡ rows_of n }
-{
-    if n <= 257 {
-        return n as usize;
-    }
-    257
-}
-
-// A number that is no row's, nor next to one.
-const FAR: u64 = 8589934592;
-
-// The numbers of a column; in a long one the ends of each run.
-fn column<W: Write>(out: &mut W, name: u8, s: &[u32; 258]) -> io::Result<()> {
-    byte(out, b' ')?;
-    byte(out, name)?;
+// The numbers of a column; in a long one the ends of each run: `a-b`, or `a*n`.
+fn column<W: Write>(out: &mut W, name: char, rows: &[u32]) -> io::Result<()> {
+    write!(out, " {name}")?;
     let mut left_out: u64 = 0;
-    let mut before: u64 = FAR;
-    let n = rows(s[257]);
-    let mut i = 0;
-    while i < n {
-        let here = wide(s[i]);
-        i += 1;
-        let after = if i < n && 8 < n { wide(s[i]) } else { FAR };
-        if between(before, here, after) {
-            left_out = std::num::wrapping_add_u64(left_out, 1);
+    let mut before = None;
+    for (i, row) in rows.iter().enumerate() {
+        let here = *row;
+        let after = if 8 < rows.len() {
+            rows.get(i + 1).copied()
         } else {
-            last(out, left_out, before, here)?;
+            None
+        };
+        if between(before, here, after) {
+            left_out = left_out.saturating_add(1);
+        } else {
+            match left_out {
+                0 => write!(out, " {here}")?,
+                n if before == Some(here) => write!(out, "*{}", n.saturating_add(2))?,
+                _ => write!(out, "-{here}")?,
+            }
             left_out = 0;
         }
-        before = here;
+        before = Some(here);
     }
     Ok(())
 }
 
+// The columns of a table.
 pub fn columns<W: Write>(
     out: &mut W,
-    id: &[u32; 258],
-    l: &[u32; 258],
-    r: &[u32; 258],
-    q: &[u32; 258],
+    id: &[u32],
+    l: &[u32],
+    r: &[u32],
+    q: &[u32],
 ) -> io::Result<()> {
-    column(out, b'i', id)?;
-    column(out, b'l', l)?;
-    column(out, b'r', r)?;
-    column(out, b'q', q)
+    for (name, rows) in [('i', id), ('l', l), ('r', r), ('q', q)] {
+        column(out, name, rows)?;
+    }
+    Ok(())
 }
