@@ -1,16 +1,21 @@
 -- A group's row, and the index at which its id stands.
-use mathlib.Core.Path.{◌≡◌, ◌∙◌}
+use mathlib.Core.Path.{◌≡◌, sym, ◌∙◌}
 use Prim.Native.Nat.{ℕ, zero, suc, ◌-◌, ◌≤◌, ◌<◌}
 use native.Mathlib.Omega.{arith}
+use lib.Dec.{ltb}
 use lib.ListN.{length, get_or}
-use borrow.Author.Tests.{eq-eqb, ne_eqb}
+use borrow.Author.Tests.{eq-eqb, ne_eqb, lt-ltb, le-ltb}
+use Rattle.std.specs.Prelude.{cond, Some, None}
+use Rattle.std.specs.Option.{ok_or}
 use Rattle.rules.specs.Answers.{answer, refused}
+use Rattle.rules.specs.Says.{says}
+use Rattle.rules.proofs.Cases.{by_lt}
 use Rattle.table.specs.Columns.{Columns, row_at, rows_from, rows}
+use Rattle.rules.specs.declared.Refusal.TheVariants.{IdUnknown}
 use Rattle.table.specs.Places.{place_of}
 use Rattle.table.specs.Inside.Places.{PlaceIn}
 use Rattle.table.proofs.Places.{NoneOf, place_at}
-use Rattle.order.specs.Order.{row_of, order_in, compare}
-use Rattle.order.specs.Inside.Found.{FoundAt}
+use Rattle.order.specs.Order.{row_of}
 
 module _ (c : Columns) (n x : ℕ) where
   -- rows that don't have the id are passed
@@ -22,9 +27,9 @@ module _ (c : Columns) (n x : ℕ) where
       passed i (omega arith) (λ k l. f k (omega arith)) ∙ rw (e, ne_eqb (get_or c.id i 0) x (f i (omega arith)))
 
   module _ {i : ℕ} (p : PlaceIn c.id n x i) where
-    there : i < n → row_of (rows c n) x ≡ answer (row_at c i)
+    pub row_there : i < n → row_of (rows c n) x ≡ answer (row_at c i)
     unfolding row_of rows_from
-    there h =
+    row_there h =
         let e : n - i ≡ suc (n - suc i) = omega arith in
         passed i p.most p.before ∙ rw (e, eq-eqb (get_or c.id i 0) x (p.there h))
 
@@ -32,27 +37,11 @@ module _ (c : Columns) (n x : ℕ) where
     unfolding row_of rows_from
     missing h = let e : n - i ≡ 0 = omega arith in passed i p.most p.before ∙ rw e
 
-    pub found_at : FoundAt c n x i
-    found_at = record { most = p.most; there = there; missing = missing }
-
-  -- what the lookup of an id says of the rows
-  pub found : {i : ℕ} → n ≤ length c.id → i ≡ place_of c.id n x → FoundAt c n x i
-  found h e = found_at (place_at h e)
-
--- the rows of two groups are found, or one of them is missing
-module _ (c : Columns) (n a b i : ℕ) (f : FoundAt c n a i) where
-  pub first_missing : i ≡ n → refused 20 ≡ order_in (rows c n) a b
-  unfolding order_in
-  first_missing e = rw (f.missing e)
-
-  module _ (j : ℕ) (g : FoundAt c n b j) (h : i ≡ n → ⊥) where
-    first_there : row_of (rows c n) a ≡ answer (row_at c i)
-    first_there = f.there (let m = f.most in omega arith)
-
-    pub second_missing : j ≡ n → refused 20 ≡ order_in (rows c n) a b
-    unfolding order_in
-    second_missing e = rw (first_there, g.missing e)
-
-    pub both_there : (j ≡ n → ⊥) → answer (compare (row_at c i) (row_at c j)) ≡ order_in (rows c n) a b
-    unfolding order_in
-    both_there k = let m = g.most in rw (first_there, g.there (omega arith))
+  -- the row at the index of an id, or 20 where that is no row's
+  pub row_says : {i : ℕ} → n ≤ length c.id → i ≡ place_of c.id n x
+      → says (ok_or (cond (ltb i n) (Some (row_at c i)) None) IdUnknown) ≡ row_of (rows c n) x
+  row_says {i} h e =
+      let p = place_at h e in
+      by_lt i n
+      (λ k. rw (lt-ltb i n k) (sym (row_there p k)))
+      (λ k. rw (le-ltb i n k) (sym (missing p (let m = p.most in omega arith))))

@@ -10,11 +10,14 @@ use Rattle.rules.specs.Answers.{Answer, answer, refused, then}
 use Rattle.rules.proofs.Answers.{same_answer, never_refused}
 use Rattle.rules.proofs.Bools.{and_both}
 use Rattle.rules.proofs.Cases.{by_lt}
-use Rattle.table.specs.Columns.{Row, Columns, row_at, rows_from, rows}
-use Rattle.order.specs.Order.{Order, same, first, second, subgroup, order_by, compare, row_of, order_in}
+use Rattle.table.specs.Columns.{Columns, row_at, rows_from, rows}
+use Rattle.table.specs.declared.Row.{Row}
+use Rattle.order.specs.Order.{subgroup, order_by, compare, row_of, order_in}
+use Rattle.order.specs.declared.Ordered.{Ordered}
+use Rattle.order.specs.declared.Ordered.TheVariants.{Same, First, Second}
 use Rattle.table.specs.Sound.{Sound}
 use Rattle.table.proofs.Soundness.{not_so}
-use Rattle.order.proofs.Finding.{found_at}
+use Rattle.order.proofs.Finding.{row_there}
 
 -- g is a subgroup of h
 abbrev pub Under : Row → Row → Type 0
@@ -52,31 +55,31 @@ module _ (c : Columns) (count : ℕ) (s : Sound c count) where
   -- a group of the table is found by its id
   pub row_found_lem : (i : ℕ) → i < count → row_of (rows c count) (get_or c.id i 0) ≡ answer (row_at c i)
   row_found_lem i h =
-      (found_at c count (get_or c.id i 0) (record { most = omega arith; there = λ _. refl; before = λ k l. (s.pair k i l h).ids })).there h
+      row_there c count (get_or c.id i 0) (record { most = omega arith; there = λ _. refl; before = λ k l. (s.pair k i l h).ids }) h
 
 -- what an answer says of the tests, and what the tests give
 never : {C : Type 0} → ◌≡◌ {A = ℕ} 0 1 → C
 never e = let f : ⊥ = omega arith in absurd f
 
-is_first : (one up down : Bool) → order_by one up down ≡ first → (one ≡ false) × (up ≡ true)
+is_first : (one up down : Bool) → order_by one up down ≡ First → (one ≡ false) × (up ≡ true)
 unfolding order_by
 is_first true up down e = never (cc)
 is_first false true down e = (refl, refl)
 is_first false false true e = never (cc)
 is_first false false false e = never (cc)
 
-is_second : (one up down : Bool) → order_by one up down ≡ second → (one ≡ false) × (down ≡ true)
+is_second : (one up down : Bool) → order_by one up down ≡ Second → (one ≡ false) × (down ≡ true)
 unfolding order_by
 is_second true up down e = never (cc)
 is_second false true down e = never (cc)
 is_second false false true e = (refl, refl)
 is_second false false false e = never (cc)
 
-gives_first : (one up down : Bool) → one ≡ false → up ≡ true → order_by one up down ≡ first
+gives_first : (one up down : Bool) → one ≡ false → up ≡ true → order_by one up down ≡ First
 unfolding order_by
 gives_first one up down e f = rw (e, f)
 
-gives_second : (one up down : Bool) → one ≡ false → up ≡ false → down ≡ true → order_by one up down ≡ second
+gives_second : (one up down : Bool) → one ≡ false → up ≡ false → down ≡ true → order_by one up down ≡ Second
 unfolding order_by
 gives_second one up down e f g = rw (e, f, g)
 
@@ -95,7 +98,7 @@ found_among c a i (suc m) n h e =
     among_step c i n (eqb (get_or c.id i 0) a) e (omega arith) (found_among c a (suc i) m n (omega arith))
 
 -- an order that is answered, and the two rows that it compares
-record Asked (c : Columns) (count a b : ℕ) (o : Order) : Type 0 where
+record Asked (c : Columns) (count a b : ℕ) (o : Ordered) : Type 0 where
   g : Row
   h : Row
   g_found : row_of (rows c count) a ≡ answer g
@@ -104,7 +107,7 @@ record Asked (c : Columns) (count a b : ℕ) (o : Order) : Type 0 where
   h_in : Among c count h
   says : compare g h ≡ o
 
-asked : (c : Columns) (count a b : ℕ) {o : Order} → order_in (rows c count) a b ≡ answer o → Asked c count a b o
+asked : (c : Columns) (count a b : ℕ) {o : Ordered} → order_in (rows c count) a b ≡ answer o → Asked c count a b o
 unfolding order_in
 asked c count a b {o} e = go (row_of (rows c count) a) (row_of (rows c count) b) refl refl e
   where
@@ -123,18 +126,18 @@ asked c count a b {o} e = go (row_of (rows c count) a) (row_of (rows c count) b)
     go (answer g) (refused n) u v k = never_refused k
     go (refused n) y u v k = never_refused k
 
-turned : (c : Columns) (count a b : ℕ) {o : Order} (k : Asked c count a b o) → order_in (rows c count) b a ≡ answer (compare k.h k.g)
+turned : (c : Columns) (count a b : ℕ) {o : Ordered} (k : Asked c count a b o) → order_in (rows c count) b a ≡ answer (compare k.h k.g)
 unfolding order_in
 turned c count a b k = rw (k.h_found, k.g_found)
 
 module _ (c : Columns) (count : ℕ) where
   -- a group of the table is the same as itself
-  pub order_refl : (a : ℕ) {g : Row} → row_of (rows c count) a ≡ answer g → order_in (rows c count) a a ≡ answer same
+  pub order_refl : (a : ℕ) {g : Row} → row_of (rows c count) a ≡ answer g → order_in (rows c count) a a ≡ answer Same
   unfolding order_in order_by
   order_refl a {g} e = rw (e, eq-eqb g.id g.id refl)
 
   -- the two ids exchanged; the other way round, `first_second`, only in a sound table
-  pub second_first : (a b : ℕ) → order_in (rows c count) a b ≡ answer second → order_in (rows c count) b a ≡ answer first
+  pub second_first : (a b : ℕ) → order_in (rows c count) a b ≡ answer Second → order_in (rows c count) b a ≡ answer First
   second_first a b e =
       let k = asked c count a b e in
       let t = is_second _ _ _ k.says in
@@ -156,10 +159,10 @@ module _ (c : Columns) (count : ℕ) where
     strict : {g h k : Row} → Among c count g → Among c count h → Among c count k → (g.id ≡ h.id → ⊥) → Under g h → Under h k → g.id ≡ k.id → ⊥
     strict x y z n up on i = not_both x y n up (rw (← one_row x z i) at on)
 
-    pub order_self : (i : ℕ) → i < count → order_in (rows c count) (get_or c.id i 0) (get_or c.id i 0) ≡ answer same
+    pub order_self : (i : ℕ) → i < count → order_in (rows c count) (get_or c.id i 0) (get_or c.id i 0) ≡ answer Same
     order_self i h = order_refl (get_or c.id i 0) (row_found_lem c count s i h)
 
-    pub first_second : (a b : ℕ) → order_in (rows c count) a b ≡ answer first → order_in (rows c count) b a ≡ answer second
+    pub first_second : (a b : ℕ) → order_in (rows c count) a b ≡ answer First → order_in (rows c count) b a ≡ answer Second
     first_second a b e =
         let k = asked c count a b e in
         let t = is_first _ _ _ k.says in
@@ -168,8 +171,8 @@ module _ (c : Columns) (count : ℕ) where
         turned c count a b k ∙ ap answer (gives_second _ _ _ (ne_eqb _ _ n) (not_so _ (not_both k.g_in k.h_in m t.1)) t.1)
 
     -- a subgroup of a subgroup
-    pub first_trans : (a b d : ℕ) → order_in (rows c count) a b ≡ answer first → order_in (rows c count) b d ≡ answer first
-        → order_in (rows c count) a d ≡ answer first
+    pub first_trans : (a b d : ℕ) → order_in (rows c count) a b ≡ answer First → order_in (rows c count) b d ≡ answer First
+        → order_in (rows c count) a d ≡ answer First
     unfolding order_in
     first_trans a b d e f =
         let k = asked c count a b e in
