@@ -9,7 +9,8 @@ use lib.ListN.{length}
 use borrow.Author.Tests.{le-ltb}
 use Rattle.rules.specs.Answers.{answer}
 use Rattle.rules.specs.Limits.{greatest}
-use Rattle.table.specs.Columns.{Row, Columns, put}
+use Rattle.table.specs.Columns.{Columns, put}
+use Rattle.table.specs.declared.Row.{Row}
 use Rattle.table.specs.Check.{some_row, some_pair, value_bad, lengths_bad, sound_rows, checked}
 use Rattle.table.proofs.Rows.{rows_put}
 use Rattle.table.proofs.Lengths.{lengths_good, good_count, put_length, put_lengths}

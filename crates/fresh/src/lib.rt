@@ -2,14 +2,15 @@
 #![tactic(auto)]
 
 ghost use Rattle.std.specs.Prelude.{◌≡◌};
+ghost use Rattle.rules.specs.Says.{says};
 ghost use Rattle.table.specs.Columns.{columns, counted, afterwards};
-ghost use Rattle.table.specs.Says.{counted_says};
 ghost use Rattle.fresh.specs.Fresh.{fresh_rows};
 
 use rules::Refusal;
-use table::{Counted, lengths_bad};
+use table::lengths_bad;
 
 // Writes row 0: the group with l = 1, r = 1 and the quota. 10 for lengths, then 11 for id or quota 0.
+#[tactic(auto, unfolding(crate::specs::Fresh::fresh_rows))]
 pub fn fresh(
     id: &mut [u32],
     l: &mut [u32],
@@ -17,19 +18,19 @@ pub fn fresh(
     q: &mut [u32],
     group: u32,
     quota: u32,
-) -> Counted
-    ensures result_value { counted_says result ≡ counted (fresh_rows (columns id.old l.old r.old q.old) group quota) }
+) -> Result<usize, Refusal>
+    ensures result_value { says result ≡ counted (fresh_rows (columns id.old l.old r.old q.old) group quota) }
     ensures q_value { columns id.new l.new r.new q.new ≡ afterwards (fresh_rows (columns id.old l.old r.old q.old) group quota) (columns id.old l.old r.old q.old) }
 {
     if lengths_bad(&*id, &*l, &*r, &*q) {
-        return Counted::Refused(Refusal::Columns);
+        return Err(Refusal::Columns);
     }
     if (group == 0) | (quota == 0) {
-        return Counted::Refused(Refusal::RowValue);
+        return Err(Refusal::RowValue);
     }
     id[0] = group;
     l[0] = 1;
     r[0] = 1;
     q[0] = quota;
-    Counted::Count(1)
+    Ok(1)
 }

@@ -7,7 +7,7 @@ use lib.ListN.{length, length-append}
 use Rattle.rules.proofs.Pieces.{flat_most, length_four}
 use Rattle.number.specs.Number.{bytes_of}
 use Rattle.number.proofs.Laws.{number_count}
-use Rattle.table.specs.Columns.{Row}
+use Rattle.table.specs.declared.Row.{Row}
 use Rattle.stored.specs.Stored.{row_bytes, rows_bytes, table_bytes}
 
 -- a row's bytes are those of its four numbers

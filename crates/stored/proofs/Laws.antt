@@ -15,7 +15,8 @@ use Rattle.rules.proofs.Bools.{or_none}
 use Rattle.number.specs.Number.{found, number_at, bytes_of}
 use Rattle.number.proofs.Laws.{number_back}
 use Rattle.number.proofs.Runs.{run_back, Stands, both_stand, one_stands, run_stands}
-use Rattle.table.specs.Columns.{Row, Columns, row_at, rows_from, rows}
+use Rattle.table.specs.Columns.{Columns, row_at, rows_from, rows}
+use Rattle.table.specs.declared.Row.{Row}
 use Rattle.table.specs.Check.{some_row, lengths_bad, count_bad, value_bad, sound_rows, checked}
 use Rattle.stored.specs.Stored.{row_bytes, rows_bytes, table_bytes, RowRead, row_found, row_read, Rows, joined, rows_at, rows_to_end, read_rows}
 use Rattle.table.proofs.Rows.{rows_length}

@@ -7,7 +7,8 @@ use lib.ListN.{length}
 use Rattle.rules.specs.Answers.{Answer, answer}
 use Rattle.rules.proofs.Answers.{same_answer, then_answer}
 use Rattle.rules.proofs.Buffers.{written_all, written_room, after_start}
-use Rattle.table.specs.Columns.{Row, Columns, rows, counted, afterwards}
+use Rattle.table.specs.Columns.{Columns, rows, counted, afterwards}
+use Rattle.table.specs.declared.Row.{Row}
 use Rattle.table.specs.Check.{checked}
 use Rattle.table.proofs.Rows.{rows_length, rows_put}
 use Rattle.table.proofs.Lengths.{good_count, put_length, put_lengths}

@@ -4,7 +4,8 @@ use mathlib.Core.List.{List, [], ◌∷◌, ◌++◌, flat_map}
 use Rattle.rules.specs.Answers.{Answer, answer, refused, then}
 use Rattle.rules.specs.Buffers.{written, after}
 use Rattle.number.specs.Number.{number_at, bytes_of}
-use Rattle.table.specs.Columns.{Row, Columns}
+use Rattle.table.specs.Columns.{Columns}
+use Rattle.table.specs.declared.Row.{Row}
 use Rattle.table.specs.Check.{lengths_bad, count_bad, sound_rows, checked}
 
 unfoldable pub row_bytes : Row → List ℕ

@@ -1,28 +1,10 @@
 -- `fresh::fresh` meets its contract: every check comes before the first store.
-use Rattle.std.proofs.Common.{◌≡◌, true, sym, ◌∙◌, arith}
+use Rattle.std.proofs.Common.{sym, ◌∙◌, arith}
 use Rattle.table.specs.Columns.{columns}
-use Rattle.table.specs.Check.{lengths_bad}
 use Rattle.table.proofs.Lengths.{lengths_good, holds_count}
 use Rattle.table.proofs.Rows.{put_one}
 use Rattle.fresh.specs.Fresh.{fresh_rows}
 use Rattle.fresh.proofs.fresh.Goals as goal
-
-pub returns-then-lengths_bad-clause-result_value : goal.returns-then-lengths_bad-clause-result_value
-unfolding fresh_rows
-returns-then-lengths_bad-clause-result_value c =
-    let e : lengths_bad (columns c.args.id.now c.args.l.now c.args.r.now c.args.q.now) ≡ true = sym c.lengths_bad.ensures ∙ c.if-lengths_bad.true in rw e
-
-pub returns-then-lengths_bad-clause-q_value : goal.returns-then-lengths_bad-clause-q_value
-unfolding fresh_rows
-returns-then-lengths_bad-clause-q_value c = rw (sym c.lengths_bad.ensures ∙ c.if-lengths_bad.true)
-
-pub returns-then-group-quota-clause-result_value : goal.returns-then-group-quota-clause-result_value
-unfolding fresh_rows
-returns-then-group-quota-clause-result_value c = rw (sym c.lengths_bad.ensures ∙ c.if-lengths_bad.false, c.if-group-quota.true)
-
-pub returns-then-group-quota-clause-q_value : goal.returns-then-group-quota-clause-q_value
-unfolding fresh_rows
-returns-then-group-quota-clause-q_value c = rw (sym c.lengths_bad.ensures ∙ c.if-lengths_bad.false, c.if-group-quota.true)
 
 pub bounds-id-0 : goal.bounds-id-0
 bounds-id-0 c = let l = lengths_good _ (sym c.lengths_bad.ensures ∙ c.if-lengths_bad.false) in omega arith
@@ -35,10 +17,6 @@ bounds-r-0 c = let l = lengths_good _ (sym c.lengths_bad.ensures ∙ c.if-length
 
 pub bounds-q-0 : goal.bounds-q-0
 bounds-q-0 c = let l = lengths_good _ (sym c.lengths_bad.ensures ∙ c.if-lengths_bad.false) in omega arith
-
-pub returns-clause-result_value : goal.returns-clause-result_value
-unfolding fresh_rows
-returns-clause-result_value c = rw (sym c.lengths_bad.ensures ∙ c.if-lengths_bad.false, c.if-group-quota.false)
 
 pub returns-clause-q_value : goal.returns-clause-q_value
 unfolding fresh_rows
