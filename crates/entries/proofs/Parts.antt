@@ -21,7 +21,7 @@ positive_drawn (answer n) = go (eqb n.value 0)
     go false = refl
 
 -- what comes after a number that may not be 0, by its value and the place after it
-after_positive : {B : Type 0} (a : Answer Number) (f : ℕ → ℕ → Answer B) → then (positive_of a) (λ n. f n.value n.next) ≡ then (positive_value (drawn a)) (λ v. f v (moved a))
+pub after_positive : {B : Type 0} (a : Answer Number) (f : ℕ → ℕ → Answer B) → then (positive_of a) (λ n. f n.value n.next) ≡ then (positive_value (drawn a)) (λ v. f v (moved a))
 after_positive (refused n) f = refl
 after_positive (answer n) f = go (eqb n.value 0)
   where
@@ -29,7 +29,7 @@ after_positive (answer n) f = go (eqb n.value 0)
     go true = refl
     go false = refl
 
-after_number : {B : Type 0} (a : Answer Number) (f : ℕ → ℕ → Answer B) → then a (λ n. f n.value n.next) ≡ then (drawn a) (λ v. f v (moved a))
+pub after_number : {B : Type 0} (a : Answer Number) (f : ℕ → ℕ → Answer B) → then a (λ n. f n.value n.next) ≡ then (drawn a) (λ v. f v (moved a))
 after_number (refused n) f = refl
 after_number (answer n) f = refl
 

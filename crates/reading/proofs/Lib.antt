@@ -1,3 +1,3 @@
 pub mod Walking
 pub mod Parts
-pub mod Work
+pub mod Received

@@ -13,9 +13,12 @@ use Rattle.request.specs.Entries.{Entry, entry}
 use Rattle.request.specs.Forest.{Forest, none, tree}
 use Rattle.request.specs.Numbering.{whole, size}
 use Rattle.request.specs.Legal.{LegalTrees}
+use Rattle.request.specs.declared.EntryRead.{EntryRead}
 use Rattle.request.specs.Reading.{entry_at, TreesRead, tree_at, trees_at}
-use Rattle.reading.specs.Work.{Work, work, enter, filled}
-use Rattle.reading.specs.Inside.Work.{WalkEnd, walk_end, Walked}
+use Rattle.reading.specs.declared.WalkEnd.{WalkEnd}
+use Rattle.reading.specs.declared.columns.Work.{Work}
+use Rattle.reading.specs.Work.{work, enter, filled}
+use Rattle.reading.specs.Inside.Work.{walk_end, Walked}
 use Rattle.request.proofs.ReadLaws.{read_trees}
 use Rattle.request.proofs.TreeSteps.{beside, tree_below, trees_none, trees_more}
 use Rattle.request.proofs.Numbering.{size_length}
@@ -113,10 +116,10 @@ end_from_none (answer t) = ap (λ (n : ℕ). answer (record { next = t.next; use
 end_from_none (refused n) = refl
 
 module _ {bytes : List ℕ} {at trees room used : ℕ} {w : Work} where
-  pub begin : used ≤ most_entries → Reading bytes at trees room used w w at used 0 trees
-  begin l = record { ends = end_from_none (trees_at room trees bytes at used); fills = λ x h. h; most = l; small = omega arith }
+  pub begin : {left : ℕ} → left ≡ trees → used ≤ most_entries → Reading bytes at trees room used w w at used 0 left
+  begin e l = rw e (record { ends = end_from_none (trees_at room trees bytes at used); fills = λ x h. h; most = l; small = omega arith })
 
-  pub refuse : {v : Work} {place next sum left n : ℕ} → Reading bytes at trees room used w v place next sum left → (x : Work) → 0 < left → tree_at room bytes place next ≡ refused n
+  pub refuse : {v : Work} {place next sum left n : ℕ} → Reading bytes at trees room used w v place next sum left → (x : Work) → 1 ≤ left → tree_at room bytes place next ≡ refused n
       → (refused n ≡ walk_end (trees_at room trees bytes at used)) × Walked (trees_at room trees bytes at used) used w x
   refuse {v} {place} {next} {sum} {left} {n} r x some e =
       let f : trees_at room left bytes place next ≡ refused n = trees_more bytes room left place next some ∙ rw e in
@@ -145,23 +148,22 @@ fills_more v u x next end e c counted written (answer r) h = h ∙ ap₂ (λ w k
 fills_more v u x next end e c counted written (refused n) h = tt
 
 -- its id and quota were written before the trees below it, its end and sum after them
-pub again : {bytes : List ℕ} {at trees room used : ℕ} {w : Work} {ids quotas ends sums ids2 quotas2 ends2 sums2 : List ℕ}
-    {place next sum left id quota children after p end inner : ℕ}
-    → Reading bytes at trees room used w (work ids quotas ends sums) place next sum left → 0 < left → next < most_entries → (room ≡ 0 → ⊥)
-    → answer (record { id = id; quota = quota; children = children; next = after }) ≡ entry_at bytes place → quota ≤ greatest
-    → Inner bytes room children after next (work (set ids next id) (set quotas next quota) ends sums) (work ids2 quotas2 ends2 sums2) p end inner
-    → Reading bytes at trees room used w (work ids2 quotas2 (set ends2 next end) (set sums2 next (quota + inner))) p end (sum + (quota + inner)) (left - 1)
-again {bytes} {at} {trees} {room} {used} {w} {ids} {quotas} {ends} {sums} {place = place} {next} {sum} {left} {id} {quota} {children} {after} {p} {end} {inner} r some l deep e fits i =
+pub again : {bytes : List ℕ} {at trees room used : ℕ} {w v u : Work} {place next sum left : ℕ} {e : EntryRead} {p end inner : ℕ} (more : ℕ)
+    → Reading bytes at trees room used w v place next sum left → left ≡ more + 1 → next < most_entries → (room ≡ 0 → ⊥)
+    → answer e ≡ entry_at bytes place → e.quota ≤ greatest
+    → Inner bytes room e.children e.next next (work (set v.ids next e.id) (set v.quotas next e.quota) v.ends v.sums) u p end inner
+    → Reading bytes at trees room used w (work u.ids u.quotas (set u.ends next end) (set u.sums next (e.quota + inner))) p end (sum + (e.quota + inner)) more
+again {bytes} {at} {trees} {room} {used} {w} {v} {u} {place} {next} {sum} {left} {e} {p} {end} {inner} more r some l deep is fits i =
     let c = i.trees in
-    let one = entry id quota in
-    let v = work ids quotas ends sums in
-    let rest = trees_at room (left - 1) bytes p end in
+    let one = entry e.id e.quota in
+    let rest = trees_at room more bytes p end in
+    let less : left - 1 ≡ more = omega arith in
     let m : trees_at room left bytes place next ≡ then rest (λ r. answer (beside one c r)) =
-    trees_more bytes room left place next some ∙ rw (tree_below bytes room place next l deep (sym e), i.read) in
+    trees_more bytes room left place next (omega arith) ∙ rw (tree_below bytes room place next l deep (sym is), i.read, less) in
     let closed =
-    ap (λ (u : Work). close u next end (quota + inner)) i.written
-    ∙ close_filled _ next end (quota + inner) (next + 1) c (omega arith)
-    ∙ ap₂ (λ (k s : ℕ). filled (enter v next id quota k (quota + s)) (next + 1) c) i.counted (sym i.summed) in
+    ap (λ (u : Work). close u next end (e.quota + inner)) i.written
+    ∙ close_filled _ next end (e.quota + inner) (next + 1) c (omega arith)
+    ∙ ap₂ (λ (k s : ℕ). filled (enter v next e.id e.quota k (e.quota + s)) (next + 1) c) i.counted (sym i.summed) in
     record {
       ends = r.ends ∙ ap (end_after sum) m ∙ ends_more sum inner one c i.summed rest;
       fills = λ x h. r.fills x (subst (λ (a : Answer TreesRead). Walked a next v x) (sym m) (fills_more v _ x next end one c i.counted closed rest h));
@@ -170,11 +172,12 @@ again {bytes} {at} {trees} {room} {used} {w} {ids} {quotas} {ends} {sums} {place
     }
 
 -- an entry without children
-pub again_alone : {bytes : List ℕ} {at trees room used : ℕ} {w : Work} {ids quotas ends sums : List ℕ} {place next sum left id quota children after : ℕ}
-    → Reading bytes at trees room used w (work ids quotas ends sums) place next sum left → 0 < left → next < most_entries → (room ≡ 0 → ⊥)
-    → answer (record { id = id; quota = quota; children = children; next = after }) ≡ entry_at bytes place → quota ≤ greatest → children ≡ 0
-    → Reading bytes at trees room used w (work (set ids next id) (set quotas next quota) (set ends next (next + 1)) (set sums next quota)) after (next + 1) (sum + quota) (left - 1)
-again_alone {bytes} {at} {trees} {room} {used} {w} {ids} {quotas} {ends} {sums} {place} {next} {sum} {left} {id} {quota} {children} {after} r some l deep e fits z =
-    let own : quota + 0 ≡ quota = omega arith in
-    subst (λ s. Reading bytes at trees room used w (work (set ids next id) (set quotas next quota) (set ends next (next + 1)) (set sums next s)) after (next + 1) (sum + s) (left - 1)) own
-    (again r some l deep e fits (inner_none bytes room children after next _ l z))
+pub again_alone : {bytes : List ℕ} {at trees room used : ℕ} {w v : Work} {place next sum left : ℕ} {e : EntryRead} (more : ℕ)
+    → Reading bytes at trees room used w v place next sum left → left ≡ more + 1 → next < most_entries → (room ≡ 0 → ⊥)
+    → answer e ≡ entry_at bytes place → e.quota ≤ greatest → e.children ≡ 0
+    → Reading bytes at trees room used w (work (set v.ids next e.id) (set v.quotas next e.quota) (set v.ends next (next + 1)) (set v.sums next e.quota)) e.next (next + 1)
+    (sum + e.quota) more
+again_alone {bytes} {at} {trees} {room} {used} {w} {v} {place} {next} {sum} {left} {e} more r some l deep is fits z =
+    let own : e.quota + 0 ≡ e.quota = omega arith in
+    subst (λ s. Reading bytes at trees room used w (work (set v.ids next e.id) (set v.quotas next e.quota) (set v.ends next (next + 1)) (set v.sums next s)) e.next (next + 1) (sum + s) more) own
+    (again more r some l deep is fits (inner_none bytes room e.children e.next next _ l z))

@@ -1,3 +1,3 @@
 pub mod Work
-pub mod Says
+pub mod Summary
 pub mod Inside

@@ -6,12 +6,7 @@ use Rattle.request.specs.Entries.{quota}
 use Rattle.request.specs.Forest.{Forest, none, tree}
 use Rattle.request.specs.Numbering.{whole, size}
 use Rattle.request.specs.Request.{Request}
-
-pub record Work : Type 0 where
-  pub ids : List ℕ
-  pub quotas : List ℕ
-  pub ends : List ℕ
-  pub sums : List ℕ
+use Rattle.reading.specs.declared.columns.Work.{Work}
 
 abbrev pub work : List ℕ → List ℕ → List ℕ → List ℕ → Work
 work ids quotas ends sums = record { ids = ids; quotas = quotas; ends = ends; sums = sums }
@@ -29,7 +24,11 @@ filled w at (tree e c r) = filled (filled (enter w at e.id (quota e) (at + 1 + s
 abbrev pub zeros : List ℕ
 zeros = replicate entry_capacity 0
 
+-- work columns with every number 0
+abbrev pub no_work : Work
+no_work = work zeros zeros zeros zeros
+
 -- the work columns after a request was read: its entries are written from the first place on; refused, every number is 0
 abbrev pub work_after : Answer Request → Work → Work
 work_after (answer q) w = filled w 0 q.trees
-work_after (refused n) w = work zeros zeros zeros zeros
+work_after (refused n) w = no_work

@@ -7,7 +7,9 @@ use Rattle.request.specs.Forest.{Forest, none, tree, Direction, upright, inverte
 use Rattle.request.specs.Numbering.{whole, size}
 use Rattle.request.specs.Reading.{TreesRead}
 use Rattle.request.specs.Request.{Request}
-use Rattle.reading.specs.Work.{Work, filled}
+use Rattle.reading.specs.declared.WalkEnd.{WalkEnd}
+use Rattle.reading.specs.declared.columns.Work.{Work}
+use Rattle.reading.specs.Work.{filled}
 
 -- the first entry of a tree: its id, its quota, the index after its subtree, its subtree's quota
 pub record EntryIn (w : Work) (at id quota end sum : ℕ) : Type 0 where
@@ -23,11 +25,6 @@ TreesIn w at (tree e c r) =
     EntryIn w at e.id (quota e) (at + 1 + size c) (quota e + whole c) × ((1 ≤ quota e) × (quota e ≤ greatest)) × TreesIn w (at + 1) c × TreesIn w (at + 1 + size c) r
 
 -- where a walk over child counts came to: the next position, the next entry and the subtrees' quota
-pub record WalkEnd : Type 0 where
-  pub next : ℕ
-  pub used : ℕ
-  pub quota : ℕ
-
 abbrev pub walk_end : Answer TreesRead → Answer WalkEnd
 walk_end found = then found λ t. answer (record { next = t.next; used = t.used; quota = whole t.trees })
 

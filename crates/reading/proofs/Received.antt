@@ -14,8 +14,10 @@ use Rattle.request.specs.Numbering.{whole, size}
 use Rattle.request.specs.Request.{Request}
 use Rattle.request.specs.Legal.{LegalTrees}
 use Rattle.request.specs.Reading.{request_of}
-use Rattle.reading.specs.Says.{is_upright, Summary, summary}
-use Rattle.reading.specs.Work.{Work, enter, filled, work_after}
+use Rattle.reading.specs.declared.Summary.{Summary}
+use Rattle.reading.specs.declared.columns.Work.{Work}
+use Rattle.reading.specs.Summary.{is_upright, summary}
+use Rattle.reading.specs.Work.{enter, filled, work_after}
 use Rattle.reading.specs.Inside.Work.{EntryIn, TreesIn, direction_by, RequestIn}
 use Rattle.request.proofs.Numbering.{size_length}
 use Rattle.request.proofs.ReadLaws.{request_read}
