@@ -2,7 +2,8 @@
 use Rattle.std.specs.Prelude.{ℕ, ◌+◌, ◌*◌}
 use Rattle.rules.specs.Answers.{Answer, answer, refused}
 use Rattle.rules.specs.Limits.{greatest}
-use Rattle.order.specs.Order.{Order, same, first, second, incomparable}
+use Rattle.order.specs.declared.Ordered.{Ordered}
+use Rattle.order.specs.declared.Ordered.TheVariants.{Same, First, Second, Incomparable}
 use Rattle.renewals.specs.Dating.{Decision, on_open, on_until, ended, ahead, never}
 
 -- the kind counts for 4294967296, one more than the greatest number
@@ -18,11 +19,11 @@ abbrev pub count_code : Answer ℕ → ℕ
 count_code (answer n) = encoded 1 n
 count_code (refused n) = refusal_code n
 
-abbrev pub order_code : Answer Order → ℕ
-order_code (answer same) = encoded 2 0
-order_code (answer first) = encoded 3 0
-order_code (answer second) = encoded 4 0
-order_code (answer incomparable) = encoded 5 0
+abbrev pub order_code : Answer Ordered → ℕ
+order_code (answer Same) = encoded 2 0
+order_code (answer First) = encoded 3 0
+order_code (answer Second) = encoded 4 0
+order_code (answer Incomparable) = encoded 5 0
 order_code (refused n) = refusal_code n
 
 abbrev pub decision_code : Answer Decision → ℕ
