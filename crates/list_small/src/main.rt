@@ -5,7 +5,7 @@
 ghost use Rattle.std.specs.Prelude.{◌≡◌, ◌≤◌, length, take};
 ghost use Rattle.small.specs.Small.{list_bytes};
 
-use number::{Drawn, Written, number_at};
+use number::number_at;
 use small_requests::small_requests;
 use std::io;
 use std::io::Read;
@@ -23,22 +23,16 @@ fn list(size: u32, buffer: &mut [u8]) -> usize
     ensures buffer_value { take result buffer.new ≡ list_bytes size }
 {
     match small_requests(size, buffer) {
-        Written::Bytes(n) => n,
-        Written::Refused(_) => 0,
-    }
-}
-
-fn size_of(input: &[u8]) -> u32 {
-    match number_at(input, 0) {
-        Drawn::Number(size, _) => size,
-        Drawn::Refused(_) => 0,
+        Ok(n) => n,
+        Err(_) => 0,
     }
 }
 
 fn main(rt: HostRuntime) -> io::Result<()> {
     let mut input = Vec::new(rt.alloc());
     rt.stdin().take(MOST_BYTES).read_to_end(&mut input)?;
+    let size = number_at(&input, 0).map_or(0, |number| number.value);
     let mut buffer = [0u8; LONGEST];
-    let length = list(size_of(&input), &mut buffer);
+    let length = list(size, &mut buffer);
     rt.write_all(&buffer[..length])
 }
