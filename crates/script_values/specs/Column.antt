@@ -5,6 +5,7 @@ use Rattle.script.specs.declared.Item.{Item}
 use Rattle.script.specs.declared.Item.TheVariants.{Word, Number}
 use Rattle.script_values.specs.Values.{narrowed}
 use Rattle.script_values.specs.declared.column.Column.{Column}
+use Rattle.script_values.specs.declared.column.Columns.{Columns}
 
 -- the numbers of the section that has its name, at most 257
 abbrev pub row_put : ℕ → Column → Column
@@ -24,3 +25,7 @@ column_of line name = column_from name (items_of line) no_rows
 
 abbrev pub rows_in : Column → List ℕ
 rows_in c = take (min c.len 257) c.rows
+
+-- the columns, each named by a letter
+abbrev pub columns_of : List ℕ → Columns
+columns_of line = record { id = column_of line 105; l = column_of line 108; r = column_of line 114; q = column_of line 113 }

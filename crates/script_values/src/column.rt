@@ -1,6 +1,6 @@
 // A column, whose rows a script's line gives.
 ghost use Rattle.std.specs.Prelude.{◌≡◌};
-ghost use Rattle.script_values.specs.Column.{no_rows, row_put, column_of, rows_in};
+ghost use Rattle.script_values.specs.Column.{no_rows, row_put, column_of, columns_of, rows_in};
 
 use crate::narrow;
 use script::{Item, Items};
@@ -66,5 +66,27 @@ impl Column {
         ensures { result.now ≡ rows_in self.old }
     {
         &mut self.rows[..self.len.min(ROWS)]
+    }
+}
+
+// The columns that a line gives.
+#[derive(Clone, Copy)]
+pub struct Columns {
+    pub id: Column,
+    pub l: Column,
+    pub r: Column,
+    pub q: Column,
+}
+
+impl Columns {
+    pub fn of(line: &[u8]) -> Columns
+        ensures { result ≡ columns_of line.now }
+    {
+        Columns {
+            id: Column::of(line, b'i'),
+            l: Column::of(line, b'l'),
+            r: Column::of(line, b'r'),
+            q: Column::of(line, b'q'),
+        }
     }
 }

@@ -8,7 +8,7 @@ mod bytes;
 mod column;
 
 pub use bytes::Bytes;
-pub use column::Column;
+pub use column::{Column, Columns};
 
 // A number in 32 bits: the greatest there is where it has more.
 #[tactic(auto, unfolding(crate::specs::Values::narrowed))]

@@ -6,6 +6,7 @@ ghost use Rattle.std.specs.Prelude.{◌≡◌, ◌≤◌, length, replicate};
 ghost use Rattle.show.specs.Shown.{used_of, between_of};
 
 use rules::Refusal;
+use script_values::Columns;
 use std::io::{Read, Write};
 use std::{fmt, io};
 
@@ -179,16 +180,9 @@ fn column<W: Write>(out: &mut W, name: char, rows: &[u32]) -> io::Result<()> {
     Ok(())
 }
 
-// The columns of a table.
-pub fn columns<W: Write>(
-    out: &mut W,
-    id: &[u32],
-    l: &[u32],
-    r: &[u32],
-    q: &[u32],
-) -> io::Result<()> {
-    for (name, rows) in [('i', id), ('l', l), ('r', r), ('q', q)] {
-        column(out, name, rows)?;
-    }
-    Ok(())
+pub fn columns<W: Write>(out: &mut W, columns: &Columns) -> io::Result<()> {
+    column(out, 'i', columns.id.as_slice())?;
+    column(out, 'l', columns.l.as_slice())?;
+    column(out, 'r', columns.r.as_slice())?;
+    column(out, 'q', columns.q.as_slice())
 }
