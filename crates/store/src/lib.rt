@@ -3,102 +3,88 @@
 
 ghost use Rattle.std.specs.Prelude.{◌≡◌, ◌+◌, ◌≤◌, length};
 ghost use Rattle.rules.specs.Buffers.{written, after};
-ghost use Rattle.rules.specs.Limits.{most_rows};
-ghost use Rattle.number.specs.Says.{written_says};
-ghost use Rattle.table.specs.Columns.{columns, rows};
-ghost use Rattle.table.specs.Inside.Held.{Holds};
+ghost use Rattle.rules.specs.Says.{says};
+ghost use Rattle.number.specs.Number.{bytes_of};
+ghost use Rattle.table.specs.Columns.{columns};
+ghost use Rattle.table.specs.InUse.{rows_of};
 ghost use Rattle.table.specs.Check.{checked};
 ghost use Rattle.stored.specs.Stored.{row_bytes, rows_bytes, table_bytes, store_answer, store_buffer};
 
-use number::{Written, number_length, write_number};
+use number::{number_length, write_number};
 use rules::Refusal;
-use table::{Checked, check_columns};
+use table::{Row, RowsInUse, check_columns};
 
 // How many bytes a row has, 4 to 20.
-fn row_length(id: u32, l: u32, r: u32, q: u32) -> usize
-    ensures { result ≡ length (row_bytes (record { id = id; l = l; r = r; q = q })) }
+#[tactic(auto, using(number::proofs::Laws::number_count, stored::proofs::Bytes::row_count))]
+fn row_length(row: Row) -> usize
+    ensures { result ≡ length (row_bytes row) }
 {
-    number_length(id) + number_length(l) + number_length(r) + number_length(q)
+    number_length(row.id) + number_length(row.l) + number_length(row.r) + number_length(row.q)
 }
 
 // How many bytes the rows have.
-fn rows_length(id: &[u32], l: &[u32], r: &[u32], q: &[u32], count: usize) -> usize
-    requires holds { Holds (columns id.now l.now r.now q.now) count }
-    requires count_le_most_rows { count ≤ most_rows }
-    ensures { result ≡ length (rows_bytes (rows (columns id.now l.now r.now q.now) count)) }
+#[tactic(auto, using(crate::proofs::Writing::bytes_most))]
+fn rows_length(rows: RowsInUse<'_>) -> usize
+    ensures { result ≡ length (rows_bytes (rows_of rows.entry)) }
 {
     let mut sum = 0;
-    let mut i = 0;
-    while i < count {
-        sum += row_length(id[i], l[i], r[i], q[i]);
-        i += 1;
+    for row in rows {
+        sum += row_length(row);
     }
     sum
 }
 
-// Writes a row's bytes from a position on, and answers the position after them.
-fn write_row(buffer: &mut [u8], at: usize, id: u32, l: u32, r: u32, q: u32) -> usize
-    requires { at + length (row_bytes (record { id = id; l = l; r = r; q = q })) ≤ length buffer.old }
-    ensures value { result ≡ at + length (row_bytes (record { id = id; l = l; r = r; q = q })) }
-    ensures buffer_value { buffer.new ≡ after buffer.old at (row_bytes (record { id = id; l = l; r = r; q = q })) }
+// Writes a number's bytes, for which there is room, and answers the position after them.
+fn put_number(buffer: &mut [u8], at: usize, value: u32) -> usize
+    requires { at + length (bytes_of value) ≤ length buffer.old }
+    ensures value { result ≡ at + length (bytes_of value) }
+    ensures buffer_value { buffer.new ≡ after buffer.old at (bytes_of value) }
 {
-    let l_at = at + number_length(id);
-    let r_at = l_at + number_length(l);
-    let q_at = r_at + number_length(r);
-    write_number(&mut *buffer, at, id);
-    write_number(&mut *buffer, l_at, l);
-    write_number(&mut *buffer, r_at, r);
-    write_number(&mut *buffer, q_at, q);
-    q_at + number_length(q)
+    at + write_number(buffer, at, value).unwrap()
 }
 
-// Writes the rows' bytes from a position on.
-fn write_rows(
-    buffer: &mut [u8],
-    at: usize,
-    id: &[u32],
-    l: &[u32],
-    r: &[u32],
-    q: &[u32],
-    count: usize,
-)
-    requires holds { Holds (columns id.now l.now r.now q.now) count }
-    requires count_in_bounds { at + length (rows_bytes (rows (columns id.now l.now r.now q.now) count)) ≤ length buffer.old }
-    ensures { buffer.new ≡ after buffer.old at (rows_bytes (rows (columns id.now l.now r.now q.now) count)) }
+// Writes a row's bytes, for which there is room, and answers the position after them.
+#[tactic(auto, using(stored::proofs::Bytes::row_count))]
+fn put_row(buffer: &mut [u8], at: usize, row: Row) -> usize
+    requires { at + length (row_bytes row) ≤ length buffer.old }
+    ensures value { result ≡ at + length (row_bytes row) }
+    ensures buffer_value { buffer.new ≡ after buffer.old at (row_bytes row) }
+{
+    let l_at = put_number(&mut *buffer, at, row.id);
+    let r_at = put_number(&mut *buffer, l_at, row.l);
+    let q_at = put_number(&mut *buffer, r_at, row.r);
+    put_number(buffer, q_at, row.q)
+}
+
+// Writes the rows' bytes, for which there is room.
+fn put_rows(buffer: &mut [u8], at: usize, rows: RowsInUse<'_>)
+    requires { at + length (rows_bytes (rows_of rows)) ≤ length buffer.old }
+    ensures { buffer.new ≡ after buffer.old at (rows_bytes (rows_of rows.entry)) }
 {
     let mut p = at;
-    let mut i = 0;
-    while i < count {
-        p = write_row(&mut *buffer, p, id[i], l[i], r[i], q[i]);
-        i += 1;
+    for row in rows {
+        p = put_row(&mut *buffer, p, row);
     }
 }
 
 // Stores rows that passed the check: 30, and no byte, where the buffer is shorter than the bytes needed.
-fn store_rows(
-    id: &[u32],
-    l: &[u32],
-    r: &[u32],
-    q: &[u32],
-    count: usize,
-    buffer: &mut [u8],
-) -> Written
-    requires holds { Holds (columns id.now l.now r.now q.now) count }
-    requires count_le_most_rows { count ≤ most_rows }
-    ensures result_value { written_says result ≡ written buffer.old 0 (table_bytes (rows (columns id.now l.now r.now q.now) count)) }
-    ensures buffer_value { buffer.new ≡ after buffer.old 0 (table_bytes (rows (columns id.now l.now r.now q.now) count)) }
+fn store_rows(rows: RowsInUse<'_>, buffer: &mut [u8]) -> Result<usize, Refusal>
+    ensures result_value { says result ≡ written buffer.old 0 (table_bytes (rows_of rows.entry)) }
+    ensures buffer_value { buffer.new ≡ after buffer.old 0 (table_bytes (rows_of rows.entry)) }
 {
-    let first = number_length(count as u32);
-    let whole = first + rows_length(id, l, r, q, count);
+    let count = rows.len() as u32;
+    let first = number_length(count);
+    let whole = first + rows_length(rows);
     if buffer.len() < whole {
-        return Written::Refused(Refusal::BufferShort);
+        return Err(Refusal::BufferShort);
     }
-    write_number(&mut *buffer, 0, count as u32);
-    write_rows(&mut *buffer, first, id, l, r, q, count);
-    Written::Bytes(whole)
+    put_number(&mut *buffer, 0, count);
+    put_rows(buffer, first, rows);
+    Ok(whole)
 }
 
 // Stores a table: 10 to 13, then 30. Nothing is written unless all of it is.
+#[tactic(auto, unfolding(stored::specs::Stored::store_answer, stored::specs::Stored::store_buffer))]
 pub fn store(
     id: &[u32],
     l: &[u32],
@@ -106,12 +92,10 @@ pub fn store(
     q: &[u32],
     count: usize,
     buffer: &mut [u8],
-) -> Written
-    ensures result_value { written_says result ≡ store_answer (columns id.now l.now r.now q.now) count buffer.old }
+) -> Result<usize, Refusal>
+    ensures result_value { says result ≡ store_answer (columns id.now l.now r.now q.now) count buffer.old }
     ensures buffer_value { buffer.new ≡ store_buffer (checked (columns id.now l.now r.now q.now) count) buffer.old }
 {
-    match check_columns(id, l, r, q, count) {
-        Checked::Refused(why) => Written::Refused(why),
-        Checked::Sound => store_rows(id, l, r, q, count, buffer),
-    }
+    let rows = check_columns(id, l, r, q, count)?;
+    store_rows(rows, buffer)
 }

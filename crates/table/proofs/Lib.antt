@@ -6,3 +6,4 @@ pub mod Lengths
 pub mod InUse
 pub mod Passing
 pub mod Soundness
+pub mod RowBytes

@@ -1,13 +1,8 @@
--- `store::rows_length` meets its contract. The loop's invariant: the sum is the bytes of the rows up to row i.
-use mathlib.Core.Path.{◌≡◌}
-use Prim.Native.Nat.{◌-◌, ◌≤◌}
-use lib.ListN.{length}
-use Rattle.table.specs.Columns.{columns}
-use Rattle.store.proofs.Writing.{up_to}
+-- `store::rows_length` meets its contract. The loop's invariant: the sum and the bytes of the rows that are left make the bytes of all.
+use Rattle.std.proofs.Common.{◌≡◌, ◌+◌, length}
+use Rattle.table.specs.InUse.{rows_of, rows_left}
+use Rattle.stored.specs.Stored.{rows_bytes}
 use Rattle.store.proofs.rows_length.Given as goal
 
-abbrev pub invariant-loop-i : goal.invariant-loop-i
-invariant-loop-i l = (l.i ≤ l.count) × (l.sum ≡ length (up_to (columns l.id l.l l.r l.q) l.i))
-
-abbrev pub decreases-loop-i : goal.decreases-loop-i
-decreases-loop-i l = l.count - l.i
+abbrev pub invariant-loop-row : goal.invariant-loop-row
+invariant-loop-row l = l.sum + length (rows_bytes (rows_left l.row-iterator)) ≡ length (rows_bytes (rows_of l.rows))
