@@ -2,8 +2,9 @@
 // to say.
 #![tactic(auto)]
 
-ghost use Rattle.std.specs.Prelude.{◌≡◌, ◌≤◌, length, replicate};
+ghost use Rattle.std.specs.Prelude.{◌≡◌, ◌≤◌, length, replicate, MatchResult, if◌then◌else◌};
 ghost use Rattle.show.specs.Shown.{used_of, between_of};
+ghost use Rattle.show.specs.declared.Shown.TheVariants.{Yes, Not};
 
 use rules::Refusal;
 use script_values::Columns;
@@ -60,16 +61,22 @@ pub enum Shown {
 }
 
 impl Shown {
-    pub fn counted(answer: Result<usize, Refusal>) -> Shown {
+    pub fn counted(answer: Result<usize, Refusal>) -> Shown
+        ensures { MatchResult answer (λ n. result ≡ Shown.Count n) (λ why. result ≡ Shown.Refused why) }
+    {
         answer.map_or_else(Shown::Refused, Shown::Count)
     }
 
-    pub fn written(answer: Result<usize, Refusal>) -> Shown {
+    pub fn written(answer: Result<usize, Refusal>) -> Shown
+        ensures { MatchResult answer (λ n. result ≡ Shown.Bytes n) (λ why. result ≡ Shown.Refused why) }
+    {
         answer.map_or_else(Shown::Refused, Shown::Bytes)
     }
 }
 
 impl From<bool> for Shown {
+    ghost from_gives = { λ yes shown. shown ≡ (if yes then Yes else Not) };
+
     fn from(yes: bool) -> Shown {
         if yes { Shown::Yes } else { Shown::Not }
     }
