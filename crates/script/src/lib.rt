@@ -86,7 +86,7 @@ fn digit(c: u8) -> Option<u8>
 fn with_digit(n: u64, d: u8) -> u64
     ensures { result ≡ longer n d }
 {
-    if n <= 1844674407370955161 {
+    if n <= u64::MAX / 10 {
         return (n * 10).wrapping_add(u64::from(d));
     }
     n
@@ -125,7 +125,7 @@ impl Numeral {
         let (value, left, step) = match run {
             Run::One => (value, 0, 0),
             Run::To(a) if a <= value => (a, value - a, 1),
-            Run::To(a) => (a, a - value, 18446744073709551615),
+            Run::To(a) => (a, a - value, u64::MAX),
             Run::Times(_) if value < 1 => (0, 0, 0),
             Run::Times(a) => (a, value - 1, 0),
         };

@@ -15,10 +15,7 @@ pub use column::{Column, Columns};
 pub fn narrow(n: u64) -> u32
     ensures { result ≡ narrowed n }
 {
-    if n <= 4294967295 {
-        return n as u32;
-    }
-    4294967295
+    u32::try_from(n).unwrap_or(u32::MAX)
 }
 
 // So many bytes of a buffer of 65536, or all.
@@ -27,8 +24,5 @@ pub fn room(n: u64) -> usize
     ensures upper_bound { result ≤ 65536 }
     ensures value { result ≡ room_of n }
 {
-    if n <= 65536 {
-        return n as usize;
-    }
-    65536
+    n.min(65536) as usize
 }
