@@ -3,10 +3,12 @@
 
 ghost use Rattle.std.specs.Prelude.{◌≡◌, false, ◌<◌, ◌≤◌, length};
 ghost use Rattle.rules.specs.Says.{says};
-ghost use Rattle.rules.specs.Buffers.{written, after};
+ghost use Rattle.rules.specs.Buffers.{written};
+ghost use Rattle.writer.specs.Writing.{Wrote};
 ghost use Rattle.number.specs.Number.{number_at, bit_groups_at, added_to, bytes_of};
 
 use rules::Refusal;
+use writer::Writer;
 
 // A number that stands in bytes: its value, and the position after its last byte.
 #[derive(Clone, Copy)]
@@ -105,24 +107,22 @@ pub fn number_length(value: u32) -> usize
     5
 }
 
-// Writes a number's bytes from a position on: 30, and none of them, where the buffer is too short.
-pub fn write_number(buffer: &mut [u8], at: usize, value: u32) -> Result<usize, Refusal>
-    ensures result_value { says result ≡ written buffer.old at (bytes_of value) }
-    ensures buffer_value { buffer.new ≡ after buffer.old at (bytes_of value) }
+// Writes a number's bytes, and moves on past them: 30, and none of them, where the buffer is too short.
+pub fn write_number(writer: &mut Writer<'_>, value: u32) -> Result<usize, Refusal>
+    ensures result_value { says result ≡ written writer.old.buffer.now writer.old.at (bytes_of value) }
+    ensures wrote { Wrote writer.old writer.new (bytes_of value) }
 {
     let count = number_length(value);
-    if buffer.len() < at {
+    if writer.too_short(count) {
         return Err(Refusal::BufferShort);
     }
-    if buffer.len() - at < count {
-        return Err(Refusal::BufferShort);
-    }
-    let last = at + (count - 1);
+    let last = writer.at + (count - 1);
     let mut left = value;
-    for i in at..last {
-        buffer[i] = (left % 128 + 128) as u8;
+    for i in writer.at..last {
+        writer.buffer[i] = (left % 128 + 128) as u8;
         left = left / 128;
     }
-    buffer[last] = left as u8;
+    writer.buffer[last] = left as u8;
+    writer.at = last + 1;
     Ok(count)
 }

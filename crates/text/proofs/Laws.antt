@@ -1,10 +1,9 @@
--- The digits of a number: one, or those of its tenth and one more. A decimal number has 1 to 10 bytes. The test of the room.
-use mathlib.Core.Path.{◌≡◌, refl, ap, sym, ◌∙◌}
+-- The digits of a number: one, or those of its tenth and one more. A decimal number has 1 to 10 bytes.
+use mathlib.Core.Path.{◌≡◌, refl, ap, ◌∙◌}
 use mathlib.Core.List.{[], ◌∷◌, ◌++◌}
-use Prim.Native.Nat.{ℕ, zero, suc, ◌+◌, ◌*◌, ◌^◌, ◌-◌, ◌/◌, ◌%◌, ◌<◌, ◌≤◌, max}
+use Prim.Native.Nat.{ℕ, zero, suc, ◌+◌, ◌*◌, ◌^◌, ◌/◌, ◌%◌, ◌<◌, ◌≤◌, max}
 use native.Mathlib.Omega.{arith}
 use native.Mathlib.Nat.{pow-succ'}
-use lib.Dec.{ltb}
 use lib.ListN.{length, length-append}
 use borrow.Author.Tests.{lt-ltb, le-ltb}
 use Rattle.rules.proofs.Cases.{by_lt}
@@ -62,10 +61,3 @@ decimal_power (suc n) e m k a b l = omega (arith, digits_power 9 e (suc n) (omeg
 pub decimal_count : (n : ℕ) → (1 ≤ length (decimal n)) × (length (decimal n) ≤ 10)
 unfolding decimal
 decimal_count n = digits_count 9 n
-
--- the test of the room, by what is left after a position
-pub short_same : (room at bytes : ℕ) → at ≤ room → ltb (room - at) bytes ≡ ltb room (at + bytes)
-short_same room at bytes h =
-    by_lt room (at + bytes)
-    (λ k. lt-ltb (room - at) bytes (omega arith) ∙ sym (lt-ltb room (at + bytes) k))
-    (λ k. le-ltb (room - at) bytes (omega arith) ∙ sym (le-ltb room (at + bytes) k))

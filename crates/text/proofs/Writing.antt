@@ -1,20 +1,14 @@
--- Digits written from the last to the first, and bytes from the first to the last.
+-- Digits written from the last to the first.
 use mathlib.Core.Path.{◌≡◌, refl, ap, sym, ◌∙◌}
-use mathlib.Core.Bool.{true, false}
 use mathlib.Core.List.{List, [], ◌∷◌, ◌++◌, append-nil}
 use mathlib.Core.Logic.{◌⊎◌, inl, inr}
-use Prim.Native.Nat.{ℕ, zero, suc, ◌+◌, ◌-◌, ◌/◌, ◌%◌, ◌<◌, ◌≤◌}
+use Prim.Native.Nat.{ℕ, zero, suc, ◌+◌, ◌/◌, ◌%◌, ◌<◌, ◌≤◌}
 use native.Mathlib.Omega.{arith}
 use native.Mathlib.Numerals.{add-one}
-use lib.Dec.{ltb}
-use lib.ListN.{length, set, take, drop, length-append}
-use lib.Seq.{sets, sets-eq, length-sets, set_comm, append_snoc, take-length}
-use borrow.Author.Tests.{ltb-true, ltb-false}
-use borrow.Rule.Slice.PartMut.{put_mid}
-use Rattle.std.proofs.lemmas.Slice.{put_mid-paste}
-use Rattle.rules.specs.Answers.{answer, refused}
-use Rattle.rules.specs.Buffers.{written, after}
-use Rattle.rules.proofs.Buffers.{written_all, after_all, kept}
+use lib.ListN.{length, set, length-append}
+use lib.Seq.{sets, length-sets, set_comm, append_snoc}
+use Rattle.rules.specs.Buffers.{after}
+use Rattle.rules.proofs.Buffers.{after_all}
 use Rattle.rules.proofs.Cases.{by_lt}
 use Rattle.text.specs.Decimal.{digits, decimal}
 use Rattle.text.proofs.Laws.{one_digit, more_digits, more_count, cap}
@@ -120,28 +114,3 @@ module _ {buffer₀ : List ℕ} {at n : ℕ} where
       let e : i ≡ at = omega (arith, w.here) in
       let all : decimal n ≡ w.tail = w.whole ∙ ap (λ (x : List ℕ). x ++ w.tail) (empty w.front z) in
       w.wrote ∙ ap (λ (j : ℕ). sets buffer₀ j w.tail) e ∙ sym (after_all buffer₀ at (decimal n) w.room ∙ ap (sets buffer₀ at) all)
-
--- ## Bytes
-
--- bytes in the place of as many of the buffer's
-pub copied : (buffer : List ℕ) (at : ℕ) (bytes : List ℕ) {new : List ℕ} → new ≡ bytes → ltb (length buffer) (at + length bytes) ≡ false
-    → put_mid at (at + length bytes - at) buffer new ≡ after buffer at bytes
-copied buffer at bytes e h =
-    let r : at + length bytes ≤ length buffer = ltb-false _ _ h in
-    let k : length bytes ≡ at + length bytes - at = omega arith in
-    put_mid-paste at _ buffer _ bytes (length bytes) e k refl
-    ∙ ap (λ (t : List ℕ). take at buffer ++ t ++ drop (at + length bytes) buffer) (take-length bytes)
-    ∙ sym (sets-eq bytes buffer at r)
-    ∙ sym (after_all buffer at bytes r)
-
--- ## The room, by its test
-
-module _ (buffer : List ℕ) (at : ℕ) (bytes : List ℕ) where
-  pub no_room_answer : ltb (length buffer) (at + length bytes) ≡ true → refused 30 ≡ written buffer at bytes
-  no_room_answer h = (kept buffer at bytes (ltb-true _ _ h)).0
-
-  pub no_room_buffer : ltb (length buffer) (at + length bytes) ≡ true → buffer ≡ after buffer at bytes
-  no_room_buffer h = (kept buffer at bytes (ltb-true _ _ h)).1
-
-  pub room_answer : ltb (length buffer) (at + length bytes) ≡ false → answer (length bytes) ≡ written buffer at bytes
-  room_answer h = sym (written_all buffer at bytes (ltb-false _ _ h))
