@@ -5,6 +5,7 @@ ghost use Rattle.script_values.specs.Bytes.{no_bytes, byte_put, number_put, entr
 use crate::narrow;
 use number::write_number;
 use script::{Item, Items};
+use writer::Writer;
 
 // Most bytes of a line.
 const ROOM: usize = 65536;
@@ -77,7 +78,8 @@ impl Bytes {
     fn put_number(&mut self, value: u64)
         ensures { self.new ≡ number_put value self.old }
     {
-        if let Ok(n) = write_number(&mut self.buffer, self.count, narrow(value)) {
+        let mut writer = Writer::new(&mut self.buffer, self.count);
+        if let Ok(n) = write_number(&mut writer, narrow(value)) {
             self.count += n;
         }
     }

@@ -5,12 +5,11 @@ use Prim.Native.Nat.{ℕ, zero, suc, ◌+◌, ◌*◌, ◌-◌, ◌≤◌, ◌<�
 use native.Mathlib.Omega.{arith}
 use lib.ListN.{length, take, set, length-set}
 use lib.Seq.{take-suc-set, take-set-le, take-take, length-take-le}
-use borrow.Author.Tests.{le-ltb}
-use borrow.Rule.Slice.PartMut.{put_mid}
 use Rattle.rules.specs.Buffers.{after}
-use Rattle.rules.proofs.Buffers.{after_none}
 use Rattle.rules.proofs.Pieces.{Wrote, wrote_none, piece_room, wrote_more, wrote_all}
-use Rattle.text.proofs.Writing.{copied}
+use Rattle.writer.specs.Writing as writing
+use Rattle.writer.specs.declared.Writer.{Writer}
+use Rattle.writer.proofs.Writing as writers
 use Rattle.small.specs.Shapes.{up_from, shapes}
 use Rattle.small.specs.Small.{greatest_size}
 use Rattle.small.proofs.Lists.{in_up}
@@ -171,29 +170,21 @@ pub shapes_whole : (chosen : List ℕ) (i left due : ℕ) → left ≡ 0 → due
 shapes_whole chosen i left due e h = let d : due ≡ 0 = omega arith in rw (e, d) (shapes_end chosen i)
 
 -- entries are left, but no tree
-pub shapes_over : (chosen : List ℕ) (i left due : ℕ) (buffer : List ℕ) (at : ℕ) → 1 ≤ left → due ≡ 0 → at + length (shapes_bytes chosen i left due) ≤ length buffer
-    → (at ≡ at + length (shapes_bytes chosen i left due)) × (buffer ≡ after buffer at (shapes_bytes chosen i left due))
-shapes_over chosen i zero due buffer at h e r = absurd (omega arith)
-shapes_over chosen i (suc left) due buffer at h e r =
+pub shapes_over : (chosen : List ℕ) (i left due : ℕ) (w : Writer) → 1 ≤ left → due ≡ 0 → w.at + length (shapes_bytes chosen i left due) ≤ length w.buffer.now
+    → writing.WroteAll w w (shapes_bytes chosen i left due)
+shapes_over chosen i zero due w h e r = absurd (omega arith)
+shapes_over chosen i (suc left) due w h e r =
     let n : shapes_bytes chosen i (suc left) due ≡ [] = rw e (shapes_idle chosen i left) in
     let m = rw n at r in
-    rw n (omega arith, sym (after_none buffer at (omega arith)))
+    rw n (writers.wrote_none w (omega arith))
 
 pub row_whole : (row : List ℕ) (n : ℕ) → n ≤ row_length → length row ≡ row_length → length (take n row) ≡ n
 row_whole row n h l = length-take-le n row (omega arith)
 
--- so it fits
-pub whole_fits : (row : List ℕ) (done i left due at : ℕ) (buffer : List ℕ) → left ≡ 0 → due ≤ left → done ≤ row_length → length row ≡ row_length
-    → at + length (shapes_bytes (take done row) i left due) ≤ length buffer → at + done ≤ length buffer
-whole_fits row done i left due at buffer e h d l r = omega (arith, r, ap length (shapes_whole (take done row) i left due e h), row_whole row done d l)
-
 -- it is written as it stands
-pub whole_written : (row : List ℕ) (done i left due at : ℕ) (buffer : List ℕ) {new : List ℕ} → left ≡ 0 → due ≤ left → done ≤ row_length → length row ≡ row_length
-    → at + length (shapes_bytes (take done row) i left due) ≤ length buffer → new ≡ take done row
-    → (at + done ≡ at + length (shapes_bytes (take done row) i left due)) × (put_mid at (at + done - at) buffer new ≡ after buffer at (shapes_bytes (take done row) i left due))
-whole_written row done i left due at buffer e h d l r n =
-    let w = shapes_whole (take done row) i left due e h in
-    let f = whole_fits row done i left due at buffer e h d l r in
-    let k = row_whole row done d l in
-    let b = copied buffer at (take done row) n (le-ltb _ _ (omega arith)) in
-    (omega (arith, ap length w), (rw k at b) ∙ ap (after buffer at) (sym w))
+pub whole_written : (row : List ℕ) (done i left due : ℕ) {old new : Writer} → left ≡ 0 → due ≤ left → done ≤ row_length → length row ≡ row_length
+    → old.at + length (shapes_bytes (take done row) i left due) ≤ length old.buffer.now → writing.Wrote old new (take done row)
+    → writing.WroteAll old new (shapes_bytes (take done row) i left due)
+whole_written row done i left due {old} {new} e h d l r w =
+    let s = shapes_whole (take done row) i left due e h in
+    rw s (writers.wrote_all w (rw s at r))

@@ -5,10 +5,12 @@
 ghost use Rattle.std.specs.Prelude.{◌≡◌, ◌+◌, ◌*◌, ◌≤◌, length, take};
 ghost use Rattle.rules.specs.Buffers.{written, after};
 ghost use Rattle.rules.specs.Says.{says};
+ghost use Rattle.writer.specs.Writing.{WroteAll};
 ghost use Rattle.small.specs.Small.{greatest_size, listed, list_bytes};
 ghost use Rattle.small_requests.specs.Inside.Rows.{row_length, shapes_bytes, direction_bytes};
 
 use rules::Refusal;
+use writer::Writer;
 
 // The greatest size that is listed.
 const GREATEST_SIZE: u32 = 6;
@@ -32,25 +34,24 @@ struct Rest {
 }
 
 // Writes every request that begins with the first `done` bytes of the row and goes on with the rest. The next entry's child count is chosen
-// here, the others' below. Answers the position after them.
-fn write_shapes(buffer: &mut [u8], at: usize, row: &mut [u8], done: usize, rest: Rest) -> usize
+// here, the others' below.
+fn write_shapes(writer: &mut Writer<'_>, row: &mut [u8], done: usize, rest: Rest)
     requires row_len { (length row.old ≡ row_length) × (done + 3 * rest.entries ≤ row_length) × (rest.id + rest.entries ≤ 1 + greatest_size) × (rest.trees ≤ rest.entries) }
-    requires due_in_bounds { at + length (shapes_bytes (take done row.old) rest.id rest.entries rest.trees) ≤ length buffer.old }
-    ensures value { result ≡ at + length (shapes_bytes (take done row.old) rest.id rest.entries rest.trees) }
-    ensures buffer_value { buffer.new ≡ after buffer.old at (shapes_bytes (take done row.old) rest.id rest.entries rest.trees) }
+    requires due_in_bounds { writer.old.at + length (shapes_bytes (take done row.old) rest.id rest.entries rest.trees) ≤ length writer.old.buffer.now }
+    ensures wrote { WroteAll writer.old writer.new (shapes_bytes (take done row.old) rest.id rest.entries rest.trees) }
     ensures row_value { take done row.new ≡ take done row.old }
 {
     let Rest { id, trees, entries } = rest;
     if entries == 0 {
-        buffer[at..at + done].copy_from_slice(&row[..done]);
-        return at + done;
+        // Not refused: there is room.
+        let _ = writer.bytes(&row[..done]);
+        return;
     }
     if trees == 0 {
-        return at;
+        return;
     }
     row[done] = id;
     row[done + 1] = 1;
-    let mut p = at;
     for k in 0..=entries - trees {
         row[done + 2] = k;
         let below = Rest {
@@ -58,22 +59,19 @@ fn write_shapes(buffer: &mut [u8], at: usize, row: &mut [u8], done: usize, rest:
             trees: trees - 1 + k,
             entries: entries - 1,
         };
-        p = write_shapes(&mut *buffer, p, &mut *row, done + ENTRY as usize, below);
+        write_shapes(&mut *writer, &mut *row, done + ENTRY as usize, below);
     }
-    p
 }
 
-// Writes the requests of one direction: the smaller tree count first. Answers the position after them.
-fn write_direction(buffer: &mut [u8], at: usize, row: &mut [u8], direction: u8, size: u8) -> usize
+// Writes the requests of one direction: the smaller tree count first.
+fn write_direction(writer: &mut Writer<'_>, row: &mut [u8], direction: u8, size: u8)
     requires row_len { (length row.old ≡ row_length) × (size ≤ greatest_size) }
-    requires size_in_bounds { at + length (direction_bytes direction size) ≤ length buffer.old }
-    ensures value { result ≡ at + length (direction_bytes direction size) }
-    ensures buffer_value { buffer.new ≡ after buffer.old at (direction_bytes direction size) }
+    requires size_in_bounds { writer.old.at + length (direction_bytes direction size) ≤ length writer.old.buffer.now }
+    ensures { WroteAll writer.old writer.new (direction_bytes direction size) }
 {
     row[0] = LEAD - 1 + ENTRY * size;
     row[1] = 1;
     row[2] = direction;
-    let mut p = at;
     for trees in 1..=size {
         row[3] = trees;
         let all = Rest {
@@ -81,9 +79,8 @@ fn write_direction(buffer: &mut [u8], at: usize, row: &mut [u8], direction: u8, 
             trees,
             entries: size,
         };
-        p = write_shapes(&mut *buffer, p, &mut *row, LEAD as usize, all);
+        write_shapes(&mut *writer, &mut *row, LEAD as usize, all);
     }
-    p
 }
 
 // How many requests a size has.
@@ -116,7 +113,8 @@ pub fn small_requests(size: u32, buffer: &mut [u8]) -> Result<usize, Refusal>
         return Err(Refusal::BufferShort);
     }
     let mut row = [0u8; ROW];
-    let second = write_direction(&mut *buffer, 0, &mut row, UPRIGHT, entries);
-    write_direction(&mut *buffer, second, &mut row, INVERTED, entries);
+    let mut writer = Writer::new(buffer, 0);
+    write_direction(&mut writer, &mut row, UPRIGHT, entries);
+    write_direction(&mut writer, &mut row, INVERTED, entries);
     Ok(count)
 }

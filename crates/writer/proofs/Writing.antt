@@ -1,5 +1,5 @@
 -- Bytes that a writer wrote, and others after them.
-use Rattle.std.proofs.Common.{◌≡◌, ℕ, ◌+◌, ◌-◌, ◌<◌, ◌≤◌, true, false, List, ◌++◌, length, take, drop, refl, ap, sym, ◌∙◌, arith, length-append, le-leb, ltb, ltb-true, ltb-false, lt-ltb, le-ltb}
+use Rattle.std.proofs.Common.{◌≡◌, ℕ, ◌+◌, ◌-◌, ◌<◌, ◌≤◌, true, false, List, [], ◌++◌, length, take, drop, refl, ap, sym, ◌∙◌, arith, length-append, le-leb, ltb, ltb-true, ltb-false, lt-ltb, le-ltb}
 use lib.Seq.{sets-eq, take-length}
 use borrow.Rule.Slice.PartMut.{put_mid}
 use Rattle.std.proofs.lemmas.Slice.{put_mid-paste}
@@ -7,8 +7,8 @@ use Rattle.rules.proofs.Cases.{by_lt}
 use borrow.Author.Tests.{lt-leb}
 use Rattle.rules.specs.Answers.{answer, refused}
 use Rattle.rules.specs.Buffers.{room, written, after}
-use Rattle.rules.proofs.Buffers.{after_same, after_then, after_all, written_all, kept}
-use Rattle.writer.specs.Writing.{place_after, Wrote}
+use Rattle.rules.proofs.Buffers.{after_same, after_none, after_then, after_all, written_all, kept}
+use Rattle.writer.specs.Writing.{place_after, Wrote, WroteAll}
 use Rattle.writer.specs.declared.Writer.{Writer}
 
 module _ (buffer : List ℕ) (at : ℕ) (bytes : List ℕ) where
@@ -20,27 +20,33 @@ module _ (buffer : List ℕ) (at : ℕ) (bytes : List ℕ) where
   unfolding place_after room
   place_stays short = rw (lt-leb _ _ short)
 
-module _ {old new : Writer} {bytes : List ℕ} (w : Wrote old new bytes) (fits : old.at + length bytes ≤ length old.buffer.now) where
-  -- where the writer stands, and how long its buffer is
-  pub moved_on : new.at ≡ old.at + length bytes
-  moved_on = w.place ∙ place_on old.buffer.now old.at bytes fits
+-- a writer that has room writes all of the bytes
+pub wrote_all : {old new : Writer} {bytes : List ℕ} → Wrote old new bytes → old.at + length bytes ≤ length old.buffer.now → WroteAll old new bytes
+wrote_all {old} {new} {bytes} w fits =
+    record { buffer = w.buffer; place = w.place ∙ place_on old.buffer.now old.at bytes fits; same_reference = w.same_reference }
 
-  pub long_as_before : length new.buffer.now ≡ length old.buffer.now
-  long_as_before = ap length w.buffer ∙ after_same old.buffer.now old.at bytes fits
+-- and one that wrote all of them had room, or writes none
+pub wrote_of : {old new : Writer} {bytes : List ℕ} → WroteAll old new bytes → old.at + length bytes ≤ length old.buffer.now → Wrote old new bytes
+wrote_of {old} {new} {bytes} w fits =
+    record { buffer = w.buffer; place = w.place ∙ sym (place_on old.buffer.now old.at bytes fits); same_reference = w.same_reference }
 
-module _ {a b c : Writer} {x y : List ℕ} where
-  -- two runs of bytes, written one after the other, are one run
-  pub wrote_both : Wrote a b x → Wrote b c y → a.at + (length x + length y) ≤ length a.buffer.now → Wrote a c (x ++ y)
-  wrote_both w v fits =
-      let n = length-append x y in
-      let p = moved_on w (omega arith) in
-      let l = long_as_before w (omega arith) in
-      let q = moved_on v (omega arith) in
-      record {
-        buffer = after_then a.buffer.now a.at x y fits w.buffer p v.buffer;
-        place = q ∙ (omega arith) ∙ sym (place_on a.buffer.now a.at (x ++ y) (omega arith));
-        same_reference = v.same_reference ∙ w.same_reference;
-      }
+-- the buffer's length stays
+pub long_as_before : {old new : Writer} {bytes : List ℕ} → WroteAll old new bytes → old.at + length bytes ≤ length old.buffer.now
+    → length new.buffer.now ≡ length old.buffer.now
+long_as_before {old} {new} {bytes} w fits = ap length w.buffer ∙ after_same old.buffer.now old.at bytes fits
+
+-- two runs of bytes, written one after the other, are one run
+pub wrote_both : {a b c : Writer} {x y : List ℕ} → WroteAll a b x → WroteAll b c y → a.at + (length x + length y) ≤ length a.buffer.now → WroteAll a c (x ++ y)
+wrote_both {a} {b} {c} {x} {y} w v fits =
+    record {
+      buffer = after_then a.buffer.now a.at x y fits w.buffer w.place v.buffer;
+      place = omega (arith, w.place, v.place, length-append x y);
+      same_reference = v.same_reference ∙ w.same_reference;
+    }
+
+-- no bytes
+pub wrote_none : (w : Writer) → w.at ≤ length w.buffer.now → WroteAll w w []
+wrote_none w fits = record { buffer = sym (after_none w.buffer.now w.at fits); place = omega arith; same_reference = refl }
 
 -- ## The room, by its test
 

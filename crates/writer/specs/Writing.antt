@@ -12,3 +12,9 @@ pub record Wrote (old new : Writer) (bytes : List ℕ) : Type 0 where
   pub buffer : new.buffer.now ≡ after old.buffer.now old.at bytes
   pub place : new.at ≡ place_after old.buffer.now old.at bytes
   pub same_reference : new.buffer.ghost_name ≡ old.buffer.ghost_name
+
+-- a writer that had room for the bytes wrote them, and stands past them
+pub record WroteAll (old new : Writer) (bytes : List ℕ) : Type 0 where
+  pub buffer : new.buffer.now ≡ after old.buffer.now old.at bytes
+  pub place : new.at ≡ old.at + length bytes
+  pub same_reference : new.buffer.ghost_name ≡ old.buffer.ghost_name

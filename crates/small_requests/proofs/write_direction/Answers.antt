@@ -1,4 +1,4 @@
-use mathlib.Core.Path.{◌∙◌}
+use mathlib.Core.Path.{refl, ◌∙◌}
 use Prim.Native.Nat.{◌+◌, ◌*◌}
 use native.Mathlib.Omega.{arith}
 use lib.ListN.{set}
@@ -10,25 +10,35 @@ loop-trees-init c =
     let a = c.args in
     let l = c.requires.row_len.0 in
     let row = set (set (set a.row.now 0 (3 + 3 * a.size)) 1 1) 2 a.direction in
-    direct_begins a.buffer.now row a.at a.direction a.size c.requires.size_in_bounds (fronted a.row.now (3 + 3 * a.size) 1 a.direction l)
-    (front_long a.row.now (3 + 3 * a.size) 1 a.direction ∙ l)
+    record {
+      directing = direct_begins a.writer.now.buffer.now row a.writer.now.at a.direction a.size c.requires.size_in_bounds (fronted a.row.now (3 + 3 * a.size) 1 a.direction l)
+          (front_long a.row.now (3 + 3 * a.size) 1 a.direction ∙ l);
+      same_reference = refl;
+    }
 
-pub write_shapes-p-requires-clause-due_in_bounds : goal.write_shapes-p-requires-clause-due_in_bounds
-write_shapes-p-requires-clause-due_in_bounds c = direct_room c.loop-trees.invariant (omega arith) (omega arith)
+pub write_shapes-requires-clause-due_in_bounds : goal.write_shapes-requires-clause-due_in_bounds
+write_shapes-requires-clause-due_in_bounds c = direct_room c.loop-trees.invariant.directing (omega arith) (omega arith)
 
 pub loop-trees-preserved : goal.loop-trees-preserved
 loop-trees-preserved c =
-    let e = c.write_shapes-p.ensures in
-    direct_again c.loop-trees.invariant (omega arith) (omega arith) (omega arith) e.value e.buffer_value e.row_value c.write_shapes-p.auto.row
+    let e = c.write_shapes.ensures in
+    record {
+      directing = direct_again c.loop-trees.invariant.directing (omega arith) (omega arith) (omega arith) e.wrote.place e.wrote.buffer e.row_value c.write_shapes.auto.row;
+      same_reference = e.wrote.same_reference ∙ c.loop-trees.invariant.same_reference;
+    }
 
 -- no tree count
 pub returns : goal.returns
-returns c = let e = direct_ends c.loop-trees.invariant (omega arith) in record { value = e.0; buffer_value = e.1 }
+returns c =
+    let i = c.loop-trees.invariant in
+    let e = direct_ends i.directing (omega arith) in
+    record { buffer = e.1; place = e.0; same_reference = i.same_reference }
 
 -- after the last one
 pub returns-2 : goal.returns-2
 returns-2 c =
-    let w = c.write_shapes-p.ensures in
-    let d = direct_again c.loop-trees.invariant (omega arith) (omega arith) {again = c.args.size} (omega arith) w.value w.buffer_value w.row_value c.write_shapes-p.auto.row in
+    let w = c.write_shapes.ensures in
+    let i = c.loop-trees.invariant in
+    let d = direct_again i.directing (omega arith) (omega arith) {again = c.args.size} (omega arith) w.wrote.place w.wrote.buffer w.row_value c.write_shapes.auto.row in
     let e = direct_ends d (omega arith) in
-    record { value = e.0; buffer_value = e.1 }
+    record { buffer = e.1; place = e.0; same_reference = w.wrote.same_reference ∙ i.same_reference }
