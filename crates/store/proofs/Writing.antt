@@ -1,11 +1,11 @@
 -- The bytes of rows in use: how many there are, and the whole table written.
 use mathlib.Core.Path.{◌≡◌}
-use mathlib.Core.List.{List}
-use Prim.Native.Nat.{ℕ, ◌+◌, ◌*◌, ◌≤◌}
+use Prim.Native.Nat.{◌+◌, ◌*◌, ◌≤◌}
 use native.Mathlib.Omega.{arith}
-use lib.ListN.{length}
-use Rattle.rules.specs.Buffers.{after}
-use Rattle.rules.proofs.Buffers.{after_then}
+use lib.ListN.{length, length-append}
+use Rattle.writer.specs.Writing.{Wrote, WroteAll}
+use Rattle.writer.specs.declared.Writer.{Writer}
+use Rattle.writer.proofs.Writing.{wrote_then}
 use Rattle.number.specs.Number.{bytes_of}
 use Rattle.table.specs.declared.in_use.RowsInUse.{RowsInUse}
 use Rattle.table.specs.InUse.{columns_of, rows_of}
@@ -21,11 +21,10 @@ module _ (u : RowsInUse) where
   pub whole_count : length (table_bytes (rows_of u)) ≡ length (bytes_of (length u.id.now)) + length (rows_bytes (rows_of u))
   whole_count = rw (rows_length (columns_of u) 0 (length u.id.now)) at (table_count (rows_of u))
 
-  pub whole_written : (buffer : List ℕ) {first second : List ℕ} {p : ℕ} → length (table_bytes (rows_of u)) ≤ length buffer
-      → p ≡ length (bytes_of (length u.id.now)) → first ≡ after buffer 0 (bytes_of (length u.id.now)) → second ≡ after first p (rows_bytes (rows_of u))
-      → second ≡ after buffer 0 (table_bytes (rows_of u))
+  pub whole_written : {a b c : Writer} → Wrote a b (bytes_of (length u.id.now)) → WroteAll b c (rows_bytes (rows_of u))
+      → a.at + length (table_bytes (rows_of u)) ≤ length a.buffer.now → WroteAll a c (table_bytes (rows_of u))
   unfolding table_bytes
-  whole_written buffer h n e f =
+  whole_written w v h =
       let t = whole_count in
-      rw (rows_length (columns_of u) 0 (length u.id.now))
-      (after_then buffer 0 (bytes_of (length u.id.now)) (rows_bytes (rows_of u)) (omega arith) e (omega arith) f)
+      let n = length-append (bytes_of (length u.id.now)) (rows_bytes (rows_of u)) in
+      rw (rows_length (columns_of u) 0 (length u.id.now)) (wrote_then w (λ _. v) (omega arith))

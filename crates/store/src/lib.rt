@@ -4,7 +4,7 @@
 ghost use Rattle.std.specs.Prelude.{◌≡◌, ◌+◌, ◌≤◌, length};
 ghost use Rattle.rules.specs.Buffers.{written, after};
 ghost use Rattle.rules.specs.Says.{says};
-ghost use Rattle.number.specs.Number.{bytes_of};
+ghost use Rattle.writer.specs.Writing.{WroteAll};
 ghost use Rattle.table.specs.Columns.{columns};
 ghost use Rattle.table.specs.InUse.{rows_of};
 ghost use Rattle.table.specs.Check.{checked};
@@ -13,6 +13,7 @@ ghost use Rattle.stored.specs.Stored.{row_bytes, rows_bytes, table_bytes, store_
 use number::{number_length, write_number};
 use rules::Refusal;
 use table::{Row, RowsInUse, check_columns};
+use writer::Writer;
 
 // How many bytes a row has, 4 to 20.
 #[tactic(auto, using(number::proofs::Laws::number_count, stored::proofs::Bytes::row_count))]
@@ -34,36 +35,24 @@ fn rows_length(rows: RowsInUse<'_>) -> usize
     sum
 }
 
-// Writes a number's bytes, for which there is room, and answers the position after them.
-fn put_number(buffer: &mut [u8], at: usize, value: u32) -> usize
-    requires { at + length (bytes_of value) ≤ length buffer.old }
-    ensures value { result ≡ at + length (bytes_of value) }
-    ensures buffer_value { buffer.new ≡ after buffer.old at (bytes_of value) }
+// Writes a row's bytes, for which there is room.
+fn write_row(writer: &mut Writer<'_>, row: Row)
+    requires { writer.old.at + length (row_bytes row) ≤ length writer.old.buffer.now }
+    ensures { WroteAll writer.old writer.new (row_bytes row) }
 {
-    at + write_number(buffer, at, value).unwrap()
-}
-
-// Writes a row's bytes, for which there is room, and answers the position after them.
-#[tactic(auto, using(stored::proofs::Bytes::row_count))]
-fn put_row(buffer: &mut [u8], at: usize, row: Row) -> usize
-    requires { at + length (row_bytes row) ≤ length buffer.old }
-    ensures value { result ≡ at + length (row_bytes row) }
-    ensures buffer_value { buffer.new ≡ after buffer.old at (row_bytes row) }
-{
-    let l_at = put_number(&mut *buffer, at, row.id);
-    let r_at = put_number(&mut *buffer, l_at, row.l);
-    let q_at = put_number(&mut *buffer, r_at, row.r);
-    put_number(buffer, q_at, row.q)
+    let _ = write_number(&mut *writer, row.id);
+    let _ = write_number(&mut *writer, row.l);
+    let _ = write_number(&mut *writer, row.r);
+    let _ = write_number(&mut *writer, row.q);
 }
 
 // Writes the rows' bytes, for which there is room.
-fn put_rows(buffer: &mut [u8], at: usize, rows: RowsInUse<'_>)
-    requires { at + length (rows_bytes (rows_of rows)) ≤ length buffer.old }
-    ensures { buffer.new ≡ after buffer.old at (rows_bytes (rows_of rows.entry)) }
+fn write_rows(writer: &mut Writer<'_>, rows: RowsInUse<'_>)
+    requires { writer.old.at + length (rows_bytes (rows_of rows)) ≤ length writer.old.buffer.now }
+    ensures { WroteAll writer.old writer.new (rows_bytes (rows_of rows.entry)) }
 {
-    let mut p = at;
     for row in rows {
-        p = put_row(&mut *buffer, p, row);
+        write_row(&mut *writer, row);
     }
 }
 
@@ -73,13 +62,14 @@ fn store_rows(rows: RowsInUse<'_>, buffer: &mut [u8]) -> Result<usize, Refusal>
     ensures buffer_value { buffer.new ≡ after buffer.old 0 (table_bytes (rows_of rows.entry)) }
 {
     let count = rows.len() as u32;
-    let first = number_length(count);
-    let whole = first + rows_length(rows);
+    let whole = number_length(count) + rows_length(rows);
     if buffer.len() < whole {
         return Err(Refusal::BufferShort);
     }
-    put_number(&mut *buffer, 0, count);
-    put_rows(buffer, first, rows);
+    // Not refused: there is room.
+    let mut writer = Writer::new(buffer, 0);
+    let _ = write_number(&mut writer, count);
+    write_rows(&mut writer, rows);
     Ok(whole)
 }
 

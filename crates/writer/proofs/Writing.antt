@@ -44,6 +44,15 @@ wrote_both {a} {b} {c} {x} {y} w v fits =
       same_reference = v.same_reference ∙ w.same_reference;
     }
 
+-- some bytes, and then others for which there is room then
+pub wrote_then : {a b c : Writer} {x y : List ℕ} → Wrote a b x → (b.at + length y ≤ length b.buffer.now → WroteAll b c y) → a.at + length (x ++ y) ≤ length a.buffer.now
+    → WroteAll a c (x ++ y)
+wrote_then {a} {b} {c} {x} {y} w next fits =
+    let n = length-append x y in
+    let first = wrote_all w (omega arith) in
+    let l = long_as_before first (omega arith) in
+    wrote_both first (next (omega (arith, first.place))) (omega arith)
+
 -- no bytes
 pub wrote_none : (w : Writer) → w.at ≤ length w.buffer.now → WroteAll w w []
 wrote_none w fits = record { buffer = sym (after_none w.buffer.now w.at fits); place = omega arith; same_reference = refl }

@@ -1,0 +1,31 @@
+use Rattle.std.proofs.Common.{length, refl, ap, ◌∙◌, arith}
+use Rattle.stored.specs.Stored.{row_bytes, rows_bytes}
+use Rattle.table.proofs.RowBytes.{rest_all, rest_room, rest_next, rest_none, next_length, no_bytes}
+use Rattle.store.proofs.write_rows.Goals as goal
+
+pub loop-row-init : goal.loop-row-init
+loop-row-init c =
+    let e = ap rows_bytes c.into_iter-row-iterator.ensures.into_iter_gives in
+    record { rest = rest_all row_bytes _ e c.requires; place = omega (arith, ap length e); same_reference = refl }
+
+pub write_row-requires : goal.write_row-requires
+write_row-requires c = rest_room row_bytes c.loop-row.invariant.rest c.in-Some.ensures.steps
+
+pub loop-row-preserved : goal.loop-row-preserved
+loop-row-preserved c =
+    let i = c.loop-row.invariant in
+    let w = c.write_row.ensures in
+    record {
+      rest = rest_next row_bytes i.rest c.in-Some.ensures.steps w.place w.buffer;
+      place = omega (arith, next_length row_bytes c.in-Some.ensures.steps);
+      same_reference = w.same_reference ∙ i.same_reference;
+    }
+
+pub returns : goal.returns
+returns c =
+    let i = c.loop-row.invariant in
+    record {
+      buffer = rest_none row_bytes i.rest c.in-None.ensures.steps.0;
+      place = omega (arith, ap length (no_bytes row_bytes c.in-None.ensures.steps.0));
+      same_reference = i.same_reference;
+    }
