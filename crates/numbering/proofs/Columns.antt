@@ -15,7 +15,8 @@ use Rattle.request.specs.Entries.{Entry, quota}
 use Rattle.request.specs.Forest.{Forest, none, tree, Direction, pre_l}
 use Rattle.request.specs.Numbering.{whole, size}
 use Rattle.request.specs.Request.{Request}
-use Rattle.reading.specs.Work.{Work, enter, filled, work_after}
+use Rattle.reading.specs.declared.columns.Work.{Work}
+use Rattle.reading.specs.Work.{enter, filled, work_after}
 use Rattle.reading.specs.Inside.Work.{direction_by}
 use Rattle.numbering.specs.Numbered.{EntriesIn}
 use Rattle.numbering.specs.Inside.Boxed.{numbers_of}

@@ -1,3 +1,3 @@
 pub mod NumberingLaws
 pub mod Columns
-pub mod Nameless
+pub mod Plane

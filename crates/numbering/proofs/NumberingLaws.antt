@@ -2,6 +2,7 @@
 use mathlib.Core.Path.{◌≡◌, refl, ap, ap₂, sym, subst, ◌∙◌}
 use mathlib.Core.Bool.{Bool, true, false}
 use mathlib.Core.List.{List, [], ◌∷◌, ◌++◌, append_assoc, append-nil}
+use Rattle.std.proofs.Common.{Option, Some, None}
 use Prim.Native.Nat.{ℕ, zero, suc, ◌+◌, ◌-◌, ◌≤◌, ◌<◌}
 use native.Mathlib.Omega.{arith}
 use native.Mathlib.Numerals.{add-one}
@@ -9,38 +10,35 @@ use lib.ListN.{length, get_or, take, drop, set, length-set, length-drop, length-
 use lib.Seq.{take_all, take-suc-set, take-append_seam, take-append-add, length-take-le, append_snoc}
 use borrow.Author.Tests.{lt-ltb, le-ltb}
 use Rattle.coordinates.specs.Coordinates.{column_with}
-use Rattle.boxes.specs.Boxes.{box_of, next_child, corner_of, inner_of, corner_cut}
+use Rattle.boxes.specs.Boxes.{box_of, cut_into, next_child, corner_of, inner_of, corner_cut}
 use Rattle.boxes.specs.declared.Box.{Box}
 use Rattle.boxes.specs.declared.Cut.{Cut}
-use Rattle.boxes.specs.declared.Cut.TheVariants.{Parts, None}
 use Rattle.coordinates.proofs.Ranges.{writes}
 use Rattle.boxes.proofs.Cuts.{parts, corner_parts}
-use Rattle.request.specs.Entries.{Entry, entry, quota}
+use Rattle.request.specs.Entries.{Entry, quota}
 use Rattle.request.specs.Forest.{Forest, none, tree}
 use Rattle.request.specs.Numbering.{whole, size, lefts, rights, up_l, up_r, down_l, down_r}
-use Rattle.reading.specs.Work.{Work, work}
+use Rattle.reading.specs.declared.columns.Work.{Work}
 use Rattle.reading.specs.Inside.Work.{TreesIn, direction_by}
 use Rattle.numbering.specs.Inside.Boxed.{trees_of, forest_in, Boxed, BoxedIn}
 use Rattle.rules.specs.Limits.{greatest}
 
 -- the trees that stand in the work columns are those that the columns show
-pub forest_back : (most : ℕ) (quotas ends sums : List ℕ) (at to : ℕ) (t : Forest) → TreesIn (work [] quotas ends sums) at t → to ≡ at + size t → size t ≤ most
-    → trees_of most quotas ends at to ≡ t
+pub forest_back : (most : ℕ) (w : Work) (at to : ℕ) (t : Forest) → TreesIn w at t → to ≡ at + size t → size t ≤ most → trees_of most w at to ≡ t
 unfolding trees_of
-forest_back zero quotas ends sums at to none s e h = refl
-forest_back (suc most) quotas ends sums at to none s e h = rw (le-ltb at to (omega arith))
-forest_back zero quotas ends sums at to (tree i c f) s e h = absurd (omega arith)
-forest_back (suc most) quotas ends sums at to (tree i c f) s e h =
+forest_back zero w at to none s e h = refl
+forest_back (suc most) w at to none s e h = rw (le-ltb at to (omega arith))
+forest_back zero w at to (tree i c f) s e h = absurd (omega arith)
+forest_back (suc most) w at to (tree i c f) s e h =
     let g = s.0.end_is in
     rw (
       lt-ltb at to (omega arith),
+      s.0.id_is,
       s.0.quota_is,
       g,
-      forest_back most quotas ends sums (at + 1) (at + 1 + size c) c s.2 refl (omega arith),
-      forest_back most quotas ends sums
-          (at + 1 + size c) to f s.3 (omega arith) (omega arith),
+      forest_back most w (at + 1) (at + 1 + size c) c s.2 refl (omega arith),
+      forest_back most w (at + 1 + size c) to f s.3 (omega arith) (omega arith),
     )
-    (ap (λ n. tree (entry n (quota i)) c f) s.0.id_is)
 
 -- the box of the first tree, of the subtree quota s, in a box of the quota b
 abbrev pub child_of : ℕ → ℕ → ℕ → ℕ → Box
@@ -247,7 +245,7 @@ part_length s p from end bh h es =
 module _ {w : Work} {up : Bool} {from to : ℕ} {ls rs : List ℕ} {p bl br b : ℕ} {l r : List ℕ} (h : Here w up from to ls rs p bl br b l r) where
   -- the box of the first tree, and what is left
   pub cut : next_child (box_of bl br b) (get_or w.quotas p 0 + whole h.children)
-      ≡ Parts (child_of bl br b (get_or w.quotas p 0 + whole h.children)) (box_of (bl + (get_or w.quotas p 0 + whole h.children)) br (b - (get_or w.quotas p 0 + whole h.children)))
+      ≡ cut_into (child_of bl br b (get_or w.quotas p 0 + whole h.children)) (box_of (bl + (get_or w.quotas p 0 + whole h.children)) br (b - (get_or w.quotas p 0 + whole h.children)))
   cut =
       let f = h.fits in
       let le = h.l_end in
@@ -352,8 +350,8 @@ module _ {w : Work} {up : Bool} {from to : ℕ} {ls rs : List ℕ} {p bl br b : 
   boxed_at end child x ls' rs' en ec ex nl nr = rw (en, ex) (inner_boxed ls' rs' (omega arith) (omega arith) child ec)
 
   -- what the code's corner says
-  module _ {cut_off : Cut} (child : Box) (ec : child ≡ child_of bl br b (get_or w.quotas p 0 + whole h.children)) (e : cut_off ≡ corner_cut up child (get_or w.quotas p 0)) where
-    corner_is : cut_off ≡ Parts (corner_of up child (get_or w.quotas p 0)) (inner_of up child (get_or w.quotas p 0))
+  module _ {cut_off : Option Cut} (child : Box) (ec : child ≡ child_of bl br b (get_or w.quotas p 0 + whole h.children)) (e : cut_off ≡ corner_cut up child (get_or w.quotas p 0)) where
+    corner_is : cut_off ≡ cut_into (corner_of up child (get_or w.quotas p 0)) (inner_of up child (get_or w.quotas p 0))
     corner_is =
         let f = h.fits in
         let le = h.l_end in
@@ -363,33 +361,32 @@ module _ {w : Work} {up : Bool} {from to : ℕ} {ls rs : List ℕ} {p bl br b : 
     pub corner_there : cut_off ≡ None → ⊥
     corner_there n = let f = corner_is in let z : ◌≡◌ {A = ℕ} 0 1 = cc in omega arith
 
-    pub place_is : {x y : Box} → cut_off ≡ Parts x y → x ≡ corner_of up child (get_or w.quotas p 0)
+    pub place_is : {x : Cut} → cut_off ≡ Some x → x.part ≡ corner_of up child (get_or w.quotas p 0)
     place_is n = let f = corner_is in cc
 
-    pub inner_is : {x y : Box} → cut_off ≡ Parts x y → y ≡ inner_of up child (get_or w.quotas p 0)
+    pub inner_is : {x : Cut} → cut_off ≡ Some x → x.rest ≡ inner_of up child (get_or w.quotas p 0)
     inner_is n = let f = corner_is in cc
 
   -- what the code's cut says
-  module _ {cut_off : Cut} {s : ℕ} (e : cut_off ≡ next_child (box_of bl br b) s) (es : s ≡ get_or w.quotas p 0 + whole h.children) where
-    cut_is : cut_off ≡ Parts (child_of bl br b (get_or w.quotas p 0 + whole h.children))
+  module _ {cut_off : Option Cut} {s : ℕ} (e : cut_off ≡ next_child (box_of bl br b) s) (es : s ≡ get_or w.quotas p 0 + whole h.children) where
+    cut_is : cut_off ≡ cut_into (child_of bl br b (get_or w.quotas p 0 + whole h.children))
         (box_of (bl + (get_or w.quotas p 0 + whole h.children)) br (b - (get_or w.quotas p 0 + whole h.children)))
     cut_is = e ∙ ap (next_child (box_of bl br b)) es ∙ cut
 
     pub never : cut_off ≡ None → ⊥
     never n = let f = cut_is in let z : ◌≡◌ {A = ℕ} 0 1 = cc in omega arith
 
-    pub child_is : {x y : Box} → cut_off ≡ Parts x y → x ≡ child_of bl br b (get_or w.quotas p 0 + whole h.children)
+    pub child_is : {x : Cut} → cut_off ≡ Some x → x.part ≡ child_of bl br b (get_or w.quotas p 0 + whole h.children)
     child_is n = let f = cut_is in cc
 
-    pub left_is : {x y : Box} → cut_off ≡ Parts x y → y ≡ box_of (bl + (get_or w.quotas p 0 + whole h.children)) br (b - (get_or w.quotas p 0 + whole h.children))
+    pub left_is : {x : Cut} → cut_off ≡ Some x → x.rest ≡ box_of (bl + (get_or w.quotas p 0 + whole h.children)) br (b - (get_or w.quotas p 0 + whole h.children))
     left_is n = let f = cut_is in cc
 
-module _ {quotas ends sums : List ℕ} {up : Bool} {from to : ℕ} {ls rs : List ℕ} {p bl br b : ℕ} {l r : List ℕ} (h : Here (work [] quotas ends sums) up from to ls rs p bl br b l r) where
   -- the trees of the first tree's children, as the columns show them
-  pub children_back : (end : ℕ) → end ≡ p + 1 + size h.children → forest_in quotas ends (p + 1) end ≡ h.children
-  children_back end e = forest_back (end - (p + 1)) quotas ends sums (p + 1) end h.children h.stored_children e (omega arith)
+  pub children_back : (end : ℕ) → end ≡ p + 1 + size h.children → forest_in w (p + 1) end ≡ h.children
+  children_back end e = forest_back (end - (p + 1)) w (p + 1) end h.children h.stored_children e (omega arith)
 
-  pub boxed_in : (end : ℕ) (child x : Box) (ls' rs' : List ℕ) → end ≡ p + 1 + size h.children → child ≡ child_of bl br b (get_or quotas p 0 + whole h.children)
-      → x ≡ inner_of up child (get_or quotas p 0) → length ls' ≡ end - (p + 1) → length rs' ≡ end - (p + 1) → BoxedIn quotas ends sums (p + 1) end x ls' rs'
+  pub boxed_in : (end : ℕ) (child x : Box) (ls' rs' : List ℕ) → end ≡ p + 1 + size h.children → child ≡ child_of bl br b (get_or w.quotas p 0 + whole h.children)
+      → x ≡ inner_of up child (get_or w.quotas p 0) → length ls' ≡ end - (p + 1) → length rs' ≡ end - (p + 1) → BoxedIn w (p + 1) end x ls' rs'
   boxed_in end child x ls' rs' en ec ex nl nr =
-      subst (Boxed (work [] quotas ends sums) (p + 1) end x.l.0 x.r.0 x.quota ls' rs') (sym (children_back end en)) (boxed_at h end child x ls' rs' en ec ex nl nr)
+      subst (Boxed w (p + 1) end x.l.0 x.r.0 x.quota ls' rs') (sym (children_back end en)) (boxed_at end child x ls' rs' en ec ex nl nr)

@@ -7,7 +7,8 @@ use Rattle.rules.specs.Limits.{greatest}
 use Rattle.request.specs.Entries.{Entry, quota}
 use Rattle.request.specs.Numbering.{whole, lefts, rights}
 use Rattle.request.specs.Request.{Request, entries}
-use Rattle.reading.specs.Work.{zeros}
+use Rattle.reading.specs.Work.{zeros, no_work}
+use Rattle.numbering.specs.declared.Numbered.{Numbered}
 
 -- the values stand in a lent column, `old` as the call began and `new` as it returned, from its first place on, and what it had past them stays
 abbrev pub Begins : (old new : List ℕ) → List ℕ → Type 0
@@ -30,3 +31,7 @@ left_numbers (refused n) = []
 abbrev pub right_numbers : Answer Request → List ℕ
 right_numbers (answer q) = cond (leb (whole q.trees) greatest) (rights q.direction 0 q.trees) []
 right_numbers (refused n) = []
+
+-- columns with every number 0
+abbrev pub no_numbers : Numbered
+no_numbers = record { work = no_work; l = zeros; r = zeros }

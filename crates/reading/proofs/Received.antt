@@ -1,12 +1,15 @@
 -- What the caller of `read_request` has in the work columns.
-use mathlib.Core.Path.{◌≡◌, refl, ap, sym, ◌∙◌}
-use mathlib.Core.Bool.{Bool}
+use mathlib.Core.Path.{◌≡◌, refl, ap, sym, ◌∙◌, subst}
+use mathlib.Core.Bool.{Bool, false}
 use mathlib.Core.List.{List}
 use Prim.Native.Nat.{ℕ, ◌+◌, ◌≤◌, ◌<◌}
 use native.Mathlib.Omega.{arith}
-use lib.ListN.{length, get_or, length-set}
+use lib.ListN.{get_or, length-set}
 use lib.Seq.{get_or-set_same, get_or-set_other}
+use Rattle.std.specs.Prelude.{Result, Ok, Err, is_err}
 use Rattle.rules.specs.Answers.{Answer, answer, refused}
+use Rattle.rules.specs.Says.{says}
+use Rattle.rules.specs.declared.Refusal.{Refusal}
 use Rattle.rules.specs.Limits.{most_entries}
 use Rattle.rules.proofs.Answers.{same_answer, never_refused, then_refused}
 use Rattle.request.specs.Forest.{Forest, none, tree, Direction, upright, inverted}
@@ -17,17 +20,10 @@ use Rattle.request.specs.Reading.{request_of}
 use Rattle.reading.specs.declared.Summary.{Summary}
 use Rattle.reading.specs.declared.columns.Work.{Work}
 use Rattle.reading.specs.Summary.{is_upright, summary}
-use Rattle.reading.specs.Work.{enter, filled, work_after}
+use Rattle.reading.specs.Work.{Places, enter, filled, work_after}
 use Rattle.reading.specs.Inside.Work.{EntryIn, TreesIn, direction_by, RequestIn}
 use Rattle.request.proofs.Numbering.{size_length}
 use Rattle.request.proofs.ReadLaws.{request_read}
-
--- every work column has n places
-pub record Places (n : ℕ) (w : Work) : Type 0 where
-  pub in_ids : length w.ids ≡ n
-  pub in_quotas : length w.quotas ≡ n
-  pub in_ends : length w.ends ≡ n
-  pub in_sums : length w.sums ≡ n
 
 enter_places : {n : ℕ} (w : Work) (at id quota end sum : ℕ) → Places n w → Places n (enter w at id quota end sum)
 enter_places w at id quota end sum p = record {
@@ -174,3 +170,9 @@ work_after_lem bytes w v e h = go (request_of bytes) e h
     go : (found : Answer Request) {s : Summary} → answer s ≡ summary found → RequestIn found w v → v ≡ work_after found w
     go (answer q) e h = h
     go (refused n) e h = never_refused (sym e)
+
+-- and they keep their places
+pub kept_places : {n : ℕ} (a : Answer Request) (r : Result Summary Refusal) (w v : Work) → false ≡ is_err r → says r ≡ summary a → RequestIn a w v → Places n w → Places n v
+kept_places {n} (answer q) r w v f e h p = subst (Places n) (sym h) (filled_places w 0 q.trees p)
+kept_places (refused k) (Ok s) w v f e h p = never_refused (sym e)
+kept_places (refused k) (Err y) w v f e h p = let z : ◌≡◌ {A = ℕ} 0 1 = cc in absurd (omega arith)

@@ -1,5 +1,5 @@
 -- The work columns of a request: its entries in its order, each with its id, its quota, where its subtree ends and its subtree's quota.
-use Rattle.std.specs.Prelude.{List, ℕ, ◌+◌, set, replicate}
+use Rattle.std.specs.Prelude.{◌≡◌, length, List, ℕ, ◌+◌, set, replicate}
 use Rattle.rules.specs.Answers.{Answer, answer, refused}
 use Rattle.rules.specs.Capacities.{entry_capacity}
 use Rattle.request.specs.Entries.{quota}
@@ -32,3 +32,10 @@ no_work = work zeros zeros zeros zeros
 abbrev pub work_after : Answer Request → Work → Work
 work_after (answer q) w = filled w 0 q.trees
 work_after (refused n) w = no_work
+
+-- every work column has n places
+pub record Places (n : ℕ) (w : Work) : Type 0 where
+  pub in_ids : length w.ids ≡ n
+  pub in_quotas : length w.quotas ≡ n
+  pub in_ends : length w.ends ≡ n
+  pub in_sums : length w.sums ≡ n

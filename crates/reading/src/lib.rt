@@ -4,11 +4,12 @@
 mod columns;
 
 ghost use Rattle.std.specs.Prelude.{◌≡◌, ◌≤◌};
+ghost use Rattle.rules.specs.Capacities.{entry_capacity};
 ghost use Rattle.rules.specs.Limits.{most_entries};
 ghost use Rattle.rules.specs.Says.{says};
 ghost use Rattle.request.specs.Reading.{trees_at, request_of};
 ghost use Rattle.reading.specs.Summary.{summary};
-ghost use Rattle.reading.specs.Work.{work_after};
+ghost use Rattle.reading.specs.Work.{Places, work_after};
 ghost use Rattle.reading.specs.Inside.Work.{Walked, walk_end, RequestIn};
 
 pub use columns::Work;
@@ -122,6 +123,7 @@ fn read_parts(bytes: &[u8], work: &mut Work) -> Result<Summary, Refusal>
 pub fn read_request(bytes: &[u8], work: &mut Work) -> Result<Summary, Refusal>
     ensures result_value { says result ≡ summary (request_of bytes.now) }
     ensures sums_value { work.new ≡ work_after (request_of bytes.now) work.old }
+    ensures places { Places entry_capacity work.new }
 {
     let read = read_parts(bytes, &mut *work);
     if read.is_err() {
