@@ -1,22 +1,26 @@
 -- How many bytes lines and tables have, and what is written of them.
 use mathlib.Core.Path.{◌≡◌, refl, ap, sym, ◌∙◌}
-use mathlib.Core.Bool.{true, false}
-use mathlib.Core.List.{List, [], ◌∷◌, ◌++◌, flat_map}
-use Prim.Native.Nat.{ℕ, ◌+◌, ◌*◌, ◌<◌, ◌≤◌}
+use mathlib.Core.Bool.{Bool, true, false, cond}
+use mathlib.Core.List.{List, [], ◌∷◌, ◌++◌}
+use Prim.Native.Nat.{ℕ, ◌+◌, ◌*◌, ◌≤◌}
 use native.Mathlib.Omega.{arith}
 use lib.ListN.{length, set, length-append}
-use Rattle.rules.specs.Answers.{Answer, answer, refused}
+use Rattle.rules.specs.Answers.{Answer, answer, refused, then}
 use Rattle.rules.specs.Buffers.{written, after}
+use Rattle.rules.proofs.Answers.{same_answer, never_refused, then_cond}
 use Rattle.rules.proofs.Bools.{or_none}
-use Rattle.rules.proofs.Buffers.{written_all, kept, after_all, after_same, after_then}
-use Rattle.rules.proofs.Pieces.{flat_more, flat_most, length_four}
+use Rattle.rules.proofs.Buffers.{after_all, after_same, after_then}
+use Rattle.rules.proofs.Pieces.{flat_most, length_four}
 use Rattle.text.specs.Decimal.{decimal}
 use Rattle.text.proofs.Laws.{decimal_count}
-use Rattle.table.specs.Columns.{Row, Columns, row_at, rows_from, rows}
-use Rattle.table.specs.Check.{lengths_bad}
+use Rattle.table.specs.Columns.{Columns, rows}
+use Rattle.table.specs.declared.Row.{Row}
+use Rattle.table.specs.declared.in_use.RowsInUse.{RowsInUse}
+use Rattle.table.specs.InUse.{columns_of, rows_of}
+use Rattle.table.specs.Check.{lengths_bad, in_use}
 use Rattle.table.specs.Sound.{Lengths}
 use Rattle.table.proofs.Lengths.{lengths_good, count_good}
-use Rattle.table.proofs.Rows.{rows_more, rows_length}
+use Rattle.table.proofs.Rows.{rows_length}
 use Rattle.lines.specs.Lines.{field_text, line_text, heading_text, row_text, rows_text, table_text, columns_bad, table_answer, table_buffer}
 
 -- ## A number and the byte after it
@@ -65,23 +69,8 @@ row_most w = omega (arith, row_count w, field_most w.id 32, field_most w.l 32, f
 pub rows_most : (t : List Row) → length (rows_text t) ≤ 44 * length t
 rows_most t = flat_most row_text 44 row_most t
 
--- the first rows of columns, the next one, and one more
-module _ (c : Columns) where
-  abbrev pub whole : ℕ → List ℕ
-  whole i = rows_text (rows c i)
-
-  abbrev pub piece : ℕ → List ℕ
-  piece i = row_text (row_at c i)
-
-  pub more : (i : ℕ) → whole (i + 1) ≡ whole i ++ piece i
-  more i = ap rows_text (rows_more c i) ∙ flat_more row_text (rows c i) (row_at c i)
-
-  pub none : whole 0 ≡ []
-  unfolding rows_from flat_map
-  none = refl
-
-  pub whole_most : (i : ℕ) → length (whole i) ≤ 44 * i
-  whole_most i = omega (arith, rows_most (rows c i), rows_length c 0 i)
+pub text_most : (u : RowsInUse) → length (rows_text (rows_of u)) ≤ 44 * 256
+text_most u = omega (arith, rows_most (rows_of u), rows_length (columns_of u) 0 (length u.id.now), u.few)
 
 -- ## The heading and the rows
 
@@ -107,29 +96,38 @@ pub columns_good : (c : Columns) (count : ℕ) → columns_bad c count ≡ false
 columns_good c count e = let b = or_none (lengths_bad c) _ e in (lengths_good c b.0, (count_good (length c.id) count b.1).1)
 
 module _ (c : Columns) (count : ℕ) (buffer : List ℕ) (at : ℕ) where
-  pub table_bad : columns_bad c count ≡ true → (refused 10 ≡ table_answer c count buffer at) × (buffer ≡ table_buffer c count buffer at)
-  unfolding table_answer table_buffer
-  table_bad e = (rw e, rw e)
-
   module _ (good : columns_bad c count ≡ false) where
     -- with columns that pass 10, the text is written, or 30
     pub table_good : (written buffer at (table_text (rows c count)) ≡ table_answer c count buffer at) × (after buffer at (table_text (rows c count)) ≡ table_buffer c count buffer at)
     unfolding table_answer table_buffer
     table_good = (rw good, rw good)
 
-    pub table_short : length buffer < at + (16 + length (whole c count)) → (refused 30 ≡ table_answer c count buffer at) × (buffer ≡ table_buffer c count buffer at)
-    table_short h =
-        let k = kept buffer at (table_text (rows c count)) (omega (arith, table_count (rows c count))) in
-        (k.0 ∙ table_good.0, k.1 ∙ table_good.1)
+  -- the rows in use, or 10, and then the writer of their text
+  pub table_steps : (then (in_use c count) (λ t. written buffer at (table_text t)) ≡ table_answer c count buffer at)
+  unfolding in_use table_answer
+  table_steps = then_cond (columns_bad c count) 10 (rows c count) (λ t. written buffer at (table_text t))
 
-    -- the heading, and then the rows
-    pub table_written : {first second : List ℕ} → at + (16 + length (whole c count)) ≤ length buffer
-        → first ≡ after buffer at heading_text → second ≡ after first (at + 16) (whole c count)
-        → (answer (16 + length (whole c count)) ≡ table_answer c count buffer at) × (second ≡ table_buffer c count buffer at)
-    unfolding table_text
-    table_written h f g =
-        let k = heading_count in
-        let n = table_count (rows c count) in (
-          ap answer (sym n) ∙ sym (written_all buffer at (table_text (rows c count)) (omega arith)) ∙ table_good.0,
-          after_then buffer at heading_text (whole c count) (omega arith) f (omega arith) g ∙ table_good.1,
-        )
+  -- the columns are refused, or the rows in use are the first `count`
+  pub refused_table : {n : ℕ} → refused n ≡ in_use c count → (refused n ≡ table_answer c count buffer at) × (buffer ≡ table_buffer c count buffer at)
+  unfolding in_use table_buffer
+  refused_table {n} e = (ap (λ a. then a (λ t. written buffer at (table_text t))) e ∙ table_steps, go (columns_bad c count) e)
+    where
+      go : (b : Bool) → refused n ≡ cond b (refused 10) (answer (rows c count)) → buffer ≡ cond b buffer (after buffer at (table_text (rows c count)))
+      go true e = refl
+      go false e = never_refused e
+
+  pub written_table : {t : List Row} → answer t ≡ in_use c count
+      → (written buffer at (table_text t) ≡ table_answer c count buffer at) × (after buffer at (table_text t) ≡ table_buffer c count buffer at)
+  unfolding in_use table_buffer
+  written_table {t} e = (ap (λ a. then a (λ t. written buffer at (table_text t))) e ∙ table_steps, go (columns_bad c count) e)
+    where
+      go : (b : Bool) → answer t ≡ cond b (refused 10) (answer (rows c count)) → after buffer at (table_text t) ≡ cond b buffer (after buffer at (table_text (rows c count)))
+      go true e = never_refused (sym e)
+      go false e = ap (λ t. after buffer at (table_text t)) (same_answer e)
+
+-- the heading, and then the rows
+pub table_written : (buffer : List ℕ) (at : ℕ) (t : List Row) {first second : List ℕ} {p : ℕ} → at + (16 + length (rows_text t)) ≤ length buffer
+    → first ≡ after buffer at heading_text → p ≡ at + 16 → second ≡ after first p (rows_text t) → second ≡ after buffer at (table_text t)
+unfolding table_text
+table_written buffer at t h f k g =
+    let n = heading_count in after_then buffer at heading_text (rows_text t) (omega arith) f (omega arith) g

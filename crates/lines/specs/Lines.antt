@@ -5,7 +5,8 @@ use Rattle.rules.specs.Answers.{Answer, answer, refused}
 use Rattle.rules.specs.Buffers.{written, after}
 use Rattle.text.specs.Decimal.{decimal}
 use Rattle.text.specs.Letters.{letters}
-use Rattle.table.specs.Columns.{Row, Columns, rows}
+use Rattle.table.specs.Columns.{Columns, rows}
+use Rattle.table.specs.declared.Row.{Row}
 use Rattle.table.specs.Check.{lengths_bad, count_bad}
 
 -- a number, and the byte after it: 32, a space, or 10, a line feed

@@ -6,14 +6,4 @@ mod fields;
 mod tables;
 
 pub use answers::{write_line, write_word};
-use rules::Refusal;
 pub use tables::write_table;
-
-// What a line says.
-#[derive(Clone, Copy)]
-pub enum Line {
-    // `ok` and a count.
-    Ok(u32),
-    // `no` and a refusal.
-    No(Refusal),
-}

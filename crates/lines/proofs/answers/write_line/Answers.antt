@@ -2,24 +2,24 @@
 use mathlib.Core.Path.{ap, sym, ◌∙◌}
 use mathlib.Core.List.{[], ◌∷◌, ◌++◌}
 use Rattle.rules.specs.Buffers.{written, after}
+use Rattle.rules.specs.Says.{says}
 use Rattle.lines.specs.Lines.{field_text, line_text}
-use Rattle.lines.specs.Says.{line_says}
 use Rattle.lines.proofs.Laws.{ok_line, no_line}
 use Rattle.lines.proofs.answers.write_line.Goals as goal
 
 pub returns-in-Ok : goal.returns-in-Ok
 returns-in-Ok c =
     let e = c.write_word.ensures in
-    let f = ok_line _ ∙ ap line_text (sym (ap line_says c.in-Ok.is)) in
+    let f = ok_line _ ∙ ap line_text (sym (ap says c.in-Ok.is)) in
     record {
       result_value = e.result_value ∙ ap (written c.args.buffer.now c.args.at) f;
       buffer_value = e.buffer_value ∙ ap (after c.args.buffer.now c.args.at) f;
     }
 
-pub returns-in-No : goal.returns-in-No
-returns-in-No c =
-    let e = c.write_word-in-No.ensures in
-    let f = ap (λ n. (110 ∷ 111 ∷ 32 ∷ []) ++ field_text n 10) c.number.ensures ∙ no_line _ ∙ ap line_text (sym (ap line_says c.in-No.is)) in
+pub returns-in-Err : goal.returns-in-Err
+returns-in-Err c =
+    let e = c.write_word-in-Err.ensures in
+    let f = ap (λ n. (110 ∷ 111 ∷ 32 ∷ []) ++ field_text n 10) c.number.ensures ∙ no_line _ ∙ ap line_text (sym (ap says c.in-Err.is)) in
     record {
       result_value = e.result_value ∙ ap (written c.args.buffer.now c.args.at) f;
       buffer_value = e.buffer_value ∙ ap (after c.args.buffer.now c.args.at) f;

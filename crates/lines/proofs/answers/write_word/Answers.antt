@@ -22,11 +22,11 @@ returns-then-too_short c =
     let p = kept a.buffer.now a.at (a.word.now ++ field_text a.n 10) (omega (arith, length-append a.word.now (field_text a.n 10), field_count a.n 10)) in
     record { result_value = p.0; buffer_value = p.1 }
 
-pub overflow_add-at : goal.overflow_add-at
-overflow_add-at c =
+pub put_bytes-n_at-requires : goal.put_bytes-n_at-requires
+put_bytes-n_at-requires c =
     let a = c.args in
     let r = ltb-false (length a.buffer.now) (a.at + (length a.word.now + c.field_length.result)) (sym c.if-too_short.ensures) in
-    omega (arith, field_count a.n 10)
+    omega arith
 
 pub write_field-requires : goal.write_field-requires
 write_field-requires c =
@@ -43,5 +43,5 @@ returns c =
     record {
       result_value = sym (written_all a.buffer.now a.at (a.word.now ++ field_text a.n 10) (omega arith) ∙ ap answer (omega arith));
       buffer_value =
-          after_then a.buffer.now a.at a.word.now (field_text a.n 10) (omega arith) c.write_bytes.ensures.buffer_value (omega arith) c.write_field.ensures.buffer_value;
+          after_then a.buffer.now a.at a.word.now (field_text a.n 10) (omega arith) c.put_bytes-n_at.ensures.buffer_value (omega arith) c.write_field.ensures.buffer_value;
     }

@@ -1,24 +1,17 @@
-use mathlib.Core.Path.{◌≡◌, ap, sym}
-use native.Mathlib.Omega.{arith}
-use lib.ListN.{length}
-use Rattle.rules.proofs.Pieces.{length_more}
-use Rattle.table.specs.Columns.{columns, row_at}
-use Rattle.lines.proofs.Laws.{whole, piece, more, none, row_most, whole_most}
+use Rattle.std.proofs.Common.{length, ap, arith}
+use Rattle.table.proofs.RowBytes.{next_length, no_bytes}
+use Rattle.lines.specs.Lines.{row_text, rows_text}
+use Rattle.lines.proofs.Laws.{text_most}
 use Rattle.lines.proofs.tables.rows_length.Goals as goal
 
-pub loop-i-init : goal.loop-i-init
-loop-i-init c = (omega arith, sym (ap length (none (columns c.args.id.now c.args.l.now c.args.r.now c.args.q.now))))
+pub loop-row-init : goal.loop-row-init
+loop-row-init c = let e = ap (λ t. length (rows_text t)) c.into_iter-row-iterator.ensures.into_iter_gives in omega arith
 
 pub overflow_add-sum : goal.overflow_add-sum
-overflow_add-sum c =
-    omega (arith, whole_most (columns c.args.id.now c.args.l.now c.args.r.now c.args.q.now) c.loop-i.i, row_most (row_at (columns c.args.id.now c.args.l.now c.args.r.now c.args.q.now) c.loop-i.i))
+overflow_add-sum c = omega (arith, next_length row_text c.in-Some.ensures.steps, text_most c.args.rows)
 
-pub loop-i-preserved : goal.loop-i-preserved
-loop-i-preserved c =
-    let t = columns c.args.id.now c.args.l.now c.args.r.now c.args.q.now in
-    (omega arith, omega (arith, length_more (whole t) (piece t) (more t) c.loop-i.i))
+pub loop-row-preserved : goal.loop-row-preserved
+loop-row-preserved c = omega (arith, next_length row_text c.in-Some.ensures.steps)
 
 pub returns : goal.returns
-returns c =
-    let e : c.loop-i.i ≡ c.args.count = omega arith in
-    omega (arith, ap (λ n. length (whole (columns c.args.id.now c.args.l.now c.args.r.now c.args.q.now) n)) e)
+returns c = omega (arith, ap length (no_bytes row_text c.in-None.ensures.steps.0))
