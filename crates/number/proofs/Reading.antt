@@ -111,19 +111,6 @@ module _ {bytes : List ℕ} {at low i unit sum : ℕ} (l : Later bytes at low i 
             ∙ sym (ap (added_to sum unit) (more bytes i inside.rest false n b)) ∙ whole_inside;
       }
 
-module _ {bytes : List ℕ} {at low unit sum : ℕ} (l : Later bytes at low (at + 3) unit sum) where
-  at_fifth : l.more ≡ 0
-  at_fifth = omega (arith, l.place)
-
-  unit_fifth : unit ≡ 268435456
-  unit_fifth = l.counts ∙ ap unit_of at_fifth
-
-  pub fifth_small : sum < 268435456
-  fifth_small = omega (arith, l.small, unit_fifth)
-
-  pub fifth_whole : added_to sum 268435456 (bit_groups_at 0 false bytes (at + 3)) ≡ added_to low 128 (bit_groups_at 3 false bytes at)
-  fifth_whole = rw (unit_fifth, at_fifth) at l.whole
-
 module _ (bytes : List ℕ) (at low : ℕ) where
   pub fifth_cut : length bytes ≤ at → refused 1 ≡ added_to low 268435456 (bit_groups_at 0 false bytes at)
   fifth_cut n = sym (ap (added_to low 268435456) (short bytes at 0 false n) ∙ added_to_refused low 268435456 1)
