@@ -8,7 +8,7 @@ ghost use Rattle.dating.specs.Says.{decided_says};
 ghost use Rattle.decide.specs.Inside.ListReading.{list_read};
 
 use dating::{Decided, Tally};
-use grant::grant_at;
+use grant::Grants;
 use matching::{Pass, Window, pass_bad};
 use number::number_at;
 use rules::Refusal;
@@ -35,13 +35,11 @@ impl Asked {
         ensures { says result ≡ list_read self.feature self.pass.l.0 self.pass.r.0 self.day grants.now before }
     {
         let mut t = before;
-        let mut at = 0;
-        while at < grants.len() {
-            let read = grant_at(grants, at)?;
-            if self.pass.granted(self.feature, read.grant) {
-                t = t.count_in(self.day, Window::from(read.grant));
+        for item in Grants::new(grants) {
+            let grant = item?;
+            if self.pass.granted(self.feature, grant) {
+                t = t.count_in(self.day, Window::from(grant));
             }
-            at = read.next;
         }
         Ok(t)
     }

@@ -1,2 +1,3 @@
 pub mod Grant
 pub mod Says
+pub mod Items

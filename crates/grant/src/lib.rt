@@ -4,6 +4,8 @@
 ghost use Rattle.std.specs.Prelude.{◌≡◌};
 ghost use Rattle.grant.specs.Grant.{grant, grant_bad, checked_grant, grant_at};
 ghost use Rattle.grant.specs.Says.{grant_says};
+ghost use Rattle.grant.specs.Items.{item_says, items_left, items_of};
+ghost use Rattle.std.specs.Iterator.{YieldsFirstBy, item_count};
 
 use coordinates::{LValue, RValue};
 use number::number_at;
@@ -85,4 +87,44 @@ pub fn grant_at(bytes: &[u8], at: usize) -> Result<GrantRead, Refusal>
         last.value,
         last.next,
     )
+}
+
+// What is left of a grant list: its grants one after another, each read as it is asked for. One that is refused is the last.
+#[derive(Clone, Copy)]
+pub struct Grants<'a> {
+    bytes: &'a [u8],
+    at: usize,
+}
+
+impl<'a> Grants<'a> {
+    // A whole list.
+    pub fn new(bytes: &'a [u8]) -> Grants<'a>
+        ensures { items_left result ≡ items_of bytes.now }
+    {
+        Grants { bytes, at: 0 }
+    }
+}
+
+impl<'a> Iterator for Grants<'a> {
+    type Item = Result<Grant, Refusal>;
+
+    ghost next_gives = { YieldsFirstBy item_says items_left };
+
+    ghost remaining = { item_count items_left };
+
+    fn next(&mut self) -> Option<Result<Grant, Refusal>> {
+        if self.bytes.len() <= self.at {
+            return None;
+        }
+        match grant_at(self.bytes, self.at) {
+            Ok(read) => {
+                self.at = read.next;
+                Some(Ok(read.grant))
+            }
+            Err(why) => {
+                self.at = self.bytes.len();
+                Some(Err(why))
+            }
+        }
+    }
 }

@@ -1,0 +1,110 @@
+-- The laws of a list's items: the next one, and that together they are the list.
+use mathlib.Core.Path.{◌≡◌, refl, ap, sym, ◌∙◌}
+use mathlib.Core.Bool.{Bool, true, false, cond}
+use mathlib.Core.List.{List, [], ◌∷◌}
+use Prim.Native.Nat.{ℕ, zero, suc, ◌+◌, ◌-◌, ◌<◌, ◌≤◌}
+use native.Mathlib.Omega.{arith}
+use lib.Dec.{leb}
+use lib.ListN.{length}
+use borrow.Author.Tests.{le-leb, lt-leb}
+use Rattle.rules.specs.Answers.{Answer, answer, refused, then}
+use Rattle.rules.proofs.Cases.{by_lt}
+use Rattle.grant.specs.Grant.{Grant, GrantRead, GrantReader, grant_at, grants_from, grants_by}
+use Rattle.grant.specs.Items.{item_then, items_from, items_of}
+use Rattle.grant.proofs.Listing.{grant_goes_on}
+
+-- ## The next item
+
+items_end : (n : ℕ) (bytes : List ℕ) (at : ℕ) → length bytes ≤ at → items_from n bytes at ≡ []
+unfolding items_from
+items_end zero bytes at h = refl
+items_end (suc n) bytes at h = rw (le-leb _ _ h)
+
+items_more : (n : ℕ) (bytes : List ℕ) (at : ℕ) → at < length bytes → items_from (suc n) bytes at ≡ item_then (grant_at bytes at) (items_from n bytes)
+unfolding items_from
+items_more n bytes at h = rw (lt-leb _ _ h)
+
+-- two ways to go on that agree where a grant was read
+item_same : (a : Answer GrantRead) (f g : ℕ → List (Answer Grant)) → ((r : GrantRead) → a ≡ answer r → f r.next ≡ g r.next) → item_then a f ≡ item_then a g
+item_same (answer r) f g h = ap (λ rest. answer r.grant ∷ rest) (h r refl)
+item_same (refused n) f g h = refl
+
+-- a count that the bytes do not reach does not matter
+items_same : (n m : ℕ) (bytes : List ℕ) (at : ℕ) → length bytes ≤ at + n → length bytes ≤ at + m → items_from n bytes at ≡ items_from m bytes at
+items_same zero m bytes at h k = items_end 0 bytes at (omega arith) ∙ sym (items_end m bytes at (omega arith))
+items_same (suc n) zero bytes at h k = items_end (suc n) bytes at (omega arith) ∙ sym (items_end 0 bytes at (omega arith))
+items_same (suc n) (suc m) bytes at h k =
+    by_lt at (length bytes)
+    (λ l. items_more n bytes at l
+    ∙ item_same (grant_at bytes at) (items_from n bytes) (items_from m bytes) (λ r e.
+    let s = grant_goes_on bytes at r e in items_same n m bytes r.next (omega (arith, s)) (omega (arith, s)))
+    ∙ sym (items_more m bytes at l))
+    (λ l. items_end (suc n) bytes at l ∙ sym (items_end (suc m) bytes at l))
+
+-- the items from a position to the bytes' end
+abbrev pub items_at : List ℕ → ℕ → List (Answer Grant)
+items_at bytes at = items_from (length bytes - at) bytes at
+
+pub items_done : (bytes : List ℕ) (at : ℕ) → length bytes ≤ at → items_at bytes at ≡ []
+items_done bytes at h = items_end (length bytes - at) bytes at h
+
+pub items_next : (bytes : List ℕ) (at : ℕ) → at < length bytes → items_at bytes at ≡ item_then (grant_at bytes at) (items_at bytes)
+items_next bytes at h =
+    let n = length bytes - at - 1 in
+    let k : length bytes - at ≡ suc n = omega arith in
+    ap (λ (m : ℕ). items_from m bytes at) k ∙ items_more n bytes at h
+    ∙ item_same (grant_at bytes at) (items_from n bytes) (items_at bytes) (λ r e.
+    let s = grant_goes_on bytes at r e in items_same n (length bytes - r.next) bytes r.next (omega (arith, s)) (omega (arith, s)))
+
+pub item_given : (bytes : List ℕ) (at : ℕ) {r : GrantRead} → at < length bytes → grant_at bytes at ≡ answer r → items_at bytes at ≡ answer r.grant ∷ items_at bytes r.next
+item_given bytes at h e = items_next bytes at h ∙ ap (λ a. item_then a (items_at bytes)) e
+
+pub item_refused : (bytes : List ℕ) (at : ℕ) {n : ℕ} → at < length bytes → grant_at bytes at ≡ refused n → items_at bytes at ≡ refused n ∷ items_at bytes (length bytes)
+item_refused bytes at {n} h e =
+    items_next bytes at h ∙ ap (λ a. item_then a (items_at bytes)) e ∙ ap (λ rest. refused n ∷ rest) (sym (items_done bytes (length bytes) (omega arith)))
+
+-- ## The list
+
+-- a list of items, each of which is judged
+unfoldable pub judged_list : (Grant → Answer Grant) → List (Answer Grant) → Answer (List Grant)
+judged_list judge [] = answer []
+judged_list judge (answer g ∷ rest) = then (judge g) λ x. then (judged_list judge rest) λ gs. answer (x ∷ gs)
+judged_list judge (refused n ∷ rest) = refused n
+
+-- what reads a grant and judges it
+abbrev pub judged : (Grant → Answer Grant) → Answer GrantRead → Answer GrantRead
+judged judge a = then a λ r. then (judge r.grant) λ x. answer (record { grant = x; next = r.next })
+
+module _ (reader : GrantReader) (judge : Grant → Answer Grant) (by : (bytes : List ℕ) (at : ℕ) → reader bytes at ≡ judged judge (grant_at bytes at)) where
+  abbrev Rest : ℕ → List ℕ → Type 0
+  Rest n bytes = (next : ℕ) → judged_list judge (items_from n bytes next) ≡ grants_from reader n bytes next
+
+  list_from : (n : ℕ) (bytes : List ℕ) (at : ℕ) → judged_list judge (items_from n bytes at) ≡ grants_from reader n bytes at
+  unfolding judged_list items_from grants_from
+  list_from zero bytes at = refl
+  list_from (suc n) bytes at = rw (by bytes at) (go (leb (length bytes) at) (grant_at bytes at) (list_from n bytes))
+    where
+      answered : Rest n bytes → (g : Answer Grant) (next : ℕ)
+          → then g (λ x. then (judged_list judge (items_from n bytes next)) λ gs. answer (x ∷ gs))
+          ≡ then (then g λ x. answer (record { grant = x; next = next })) (λ (r : GrantRead). then (grants_from reader n bytes r.next) λ gs. answer (r.grant ∷ gs))
+      answered rest (answer x) next = rw (rest next)
+      answered rest (refused k) next = refl
+
+      go : (b : Bool) (a : Answer GrantRead) → Rest n bytes
+          → judged_list judge (cond b [] (item_then a (items_from n bytes)))
+          ≡ cond b (answer []) (then (judged judge a) λ (r : GrantRead). then (grants_from reader n bytes r.next) λ gs. answer (r.grant ∷ gs))
+      go true a rest = refl
+      go false (refused k) rest = refl
+      go false (answer r) rest = answered rest (judge r.grant) r.next
+
+  pub list_whole : (bytes : List ℕ) → judged_list judge (items_of bytes) ≡ grants_by reader bytes
+  unfolding grants_by
+  list_whole bytes = list_from (length bytes) bytes 0
+
+-- a list that is read and no more
+pub list_read : (bytes : List ℕ) → judged_list answer (items_of bytes) ≡ grants_by grant_at bytes
+list_read bytes = list_whole grant_at answer (λ b at. go (grant_at b at)) bytes
+  where
+    go : (a : Answer GrantRead) → a ≡ judged answer a
+    go (answer r) = refl
+    go (refused n) = refl
