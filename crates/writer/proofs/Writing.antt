@@ -1,5 +1,5 @@
 -- Bytes that a writer wrote, and others after them.
-use Rattle.std.proofs.Common.{◌≡◌, ℕ, ◌+◌, ◌-◌, ◌<◌, ◌≤◌, true, false, List, [], ◌++◌, length, take, drop, refl, ap, sym, ◌∙◌, arith, length-append, le-leb, ltb, ltb-true, ltb-false, lt-ltb, le-ltb}
+use Rattle.std.proofs.Common.{◌≡◌, ℕ, ◌+◌, ◌-◌, ◌<◌, ◌≤◌, true, false, List, [], ◌∷◌, ◌++◌, length, set, take, drop, refl, ap, sym, ◌∙◌, arith, length-append, le-leb, ltb, ltb-true, ltb-false, lt-ltb, le-ltb}
 use lib.Seq.{sets-eq, take-length}
 use borrow.Rule.Slice.PartMut.{put_mid}
 use Rattle.std.proofs.lemmas.Slice.{put_mid-paste}
@@ -20,29 +20,26 @@ module _ (buffer : List ℕ) (at : ℕ) (bytes : List ℕ) where
   unfolding place_after room
   place_stays short = rw (lt-leb _ _ short)
 
+-- the bytes stand in the buffer, for which there is room, and the writer stands past them
+pub wrote_room : {old new : Writer} {bytes : List ℕ} → old.at + length bytes ≤ length old.buffer.now → new.buffer.now ≡ after old.buffer.now old.at bytes
+    → new.at ≡ old.at + length bytes → new.buffer.ghost_name ≡ old.buffer.ghost_name → WroteAll old new bytes
+wrote_room {old} {new} {bytes} fits e p g =
+    record { buffer = e; place = p; same_length = ap length e ∙ after_same old.buffer.now old.at bytes fits; same_reference = g }
+
 -- a writer that has room writes all of the bytes
 pub wrote_all : {old new : Writer} {bytes : List ℕ} → Wrote old new bytes → old.at + length bytes ≤ length old.buffer.now → WroteAll old new bytes
-wrote_all {old} {new} {bytes} w fits =
-    record { buffer = w.buffer; place = w.place ∙ place_on old.buffer.now old.at bytes fits; same_reference = w.same_reference }
+wrote_all {old} {new} {bytes} w fits = wrote_room fits w.buffer (w.place ∙ place_on old.buffer.now old.at bytes fits) w.same_reference
 
 -- and one that wrote all of them had room, or writes none
 pub wrote_of : {old new : Writer} {bytes : List ℕ} → WroteAll old new bytes → old.at + length bytes ≤ length old.buffer.now → Wrote old new bytes
 wrote_of {old} {new} {bytes} w fits =
     record { buffer = w.buffer; place = w.place ∙ sym (place_on old.buffer.now old.at bytes fits); same_reference = w.same_reference }
 
--- the buffer's length stays
-pub long_as_before : {old new : Writer} {bytes : List ℕ} → WroteAll old new bytes → old.at + length bytes ≤ length old.buffer.now
-    → length new.buffer.now ≡ length old.buffer.now
-long_as_before {old} {new} {bytes} w fits = ap length w.buffer ∙ after_same old.buffer.now old.at bytes fits
-
 -- two runs of bytes, written one after the other, are one run
 pub wrote_both : {a b c : Writer} {x y : List ℕ} → WroteAll a b x → WroteAll b c y → a.at + (length x + length y) ≤ length a.buffer.now → WroteAll a c (x ++ y)
 wrote_both {a} {b} {c} {x} {y} w v fits =
-    record {
-      buffer = after_then a.buffer.now a.at x y fits w.buffer w.place v.buffer;
-      place = omega (arith, w.place, v.place, length-append x y);
-      same_reference = v.same_reference ∙ w.same_reference;
-    }
+    let n = length-append x y in
+    wrote_room (omega arith) (after_then a.buffer.now a.at x y fits w.buffer w.place v.buffer) (omega (arith, w.place, v.place)) (v.same_reference ∙ w.same_reference)
 
 -- some bytes, and then others for which there is room then
 pub wrote_then : {a b c : Writer} {x y : List ℕ} → Wrote a b x → (b.at + length y ≤ length b.buffer.now → WroteAll b c y) → a.at + length (x ++ y) ≤ length a.buffer.now
@@ -50,12 +47,11 @@ pub wrote_then : {a b c : Writer} {x y : List ℕ} → Wrote a b x → (b.at + l
 wrote_then {a} {b} {c} {x} {y} w next fits =
     let n = length-append x y in
     let first = wrote_all w (omega arith) in
-    let l = long_as_before first (omega arith) in
-    wrote_both first (next (omega (arith, first.place))) (omega arith)
+    wrote_both first (next (omega (arith, first.place, first.same_length))) (omega arith)
 
 -- no bytes
 pub wrote_none : (w : Writer) → w.at ≤ length w.buffer.now → WroteAll w w []
-wrote_none w fits = record { buffer = sym (after_none w.buffer.now w.at fits); place = omega arith; same_reference = refl }
+wrote_none w fits = wrote_room (omega arith) (sym (after_none w.buffer.now w.at fits)) (omega arith) refl
 
 -- ## The room, by its test
 
@@ -98,3 +94,14 @@ copied buffer at bytes e h =
     ∙ ap (λ (t : List ℕ). take at buffer ++ t ++ drop (at + length bytes) buffer) (take-length bytes)
     ∙ sym (sets-eq bytes buffer at r)
     ∙ sym (after_all buffer at bytes r)
+
+-- one byte
+module _ (w : Writer) (byte : ℕ) where
+  pub no_byte : length w.buffer.now ≤ w.at → (refused 30 ≡ written w.buffer.now w.at (byte ∷ [])) × Wrote w w (byte ∷ [])
+  no_byte h = let s : ltb (length w.buffer.now) (w.at + 1) ≡ true = lt-ltb _ _ (omega arith) in (no_room_answer w.buffer.now w.at (byte ∷ []) s, none_written w (byte ∷ []) s)
+
+  pub one_byte : (new : Writer) → w.at < length w.buffer.now → new.buffer.now ≡ set w.buffer.now w.at byte → new.at ≡ w.at + 1 → new.buffer.ghost_name ≡ w.buffer.ghost_name
+      → (answer 1 ≡ written w.buffer.now w.at (byte ∷ [])) × Wrote w new (byte ∷ [])
+  one_byte new h e p g =
+      let s : ltb (length w.buffer.now) (w.at + 1) ≡ false = le-ltb _ _ (omega arith) in
+      (room_answer w.buffer.now w.at (byte ∷ []) s, all_written w new (byte ∷ []) s (e ∙ sym (after_all w.buffer.now w.at (byte ∷ []) (omega arith))) p g)

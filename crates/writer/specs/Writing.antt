@@ -17,4 +17,5 @@ pub record Wrote (old new : Writer) (bytes : List ℕ) : Type 0 where
 pub record WroteAll (old new : Writer) (bytes : List ℕ) : Type 0 where
   pub buffer : new.buffer.now ≡ after old.buffer.now old.at bytes
   pub place : new.at ≡ old.at + length bytes
+  pub same_length : length new.buffer.now ≡ length old.buffer.now
   pub same_reference : new.buffer.ghost_name ≡ old.buffer.ghost_name

@@ -1,7 +1,7 @@
 // A writer that writes bytes one after another into a lent buffer (RULES.md, 2): all of some bytes, or none.
 #![tactic(auto)]
 
-ghost use Rattle.std.specs.Prelude.{◌≡◌, ◌+◌, ltb, length};
+ghost use Rattle.std.specs.Prelude.{◌≡◌, ◌+◌, ◌∷◌, [], ltb, length};
 ghost use Rattle.rules.specs.Says.{says};
 ghost use Rattle.rules.specs.Buffers.{written};
 ghost use Rattle.writer.specs.Writing.{Wrote};
@@ -47,5 +47,18 @@ impl<'a> Writer<'a> {
         self.buffer[self.at..end].copy_from_slice(bytes);
         self.at = end;
         Ok(bytes.len())
+    }
+
+    // Writes one byte, and moves on past it: 30 where the buffer has no place for it.
+    pub fn byte(&mut self, byte: u8) -> Result<usize, Refusal>
+        ensures value { says result ≡ written self.old.buffer.now self.old.at (byte ∷ []) }
+        ensures wrote { Wrote self.old self.new (byte ∷ []) }
+    {
+        if self.buffer.len() <= self.at {
+            return Err(Refusal::BufferShort);
+        }
+        self.buffer[self.at] = byte;
+        self.at += 1;
+        Ok(1)
     }
 }

@@ -4,6 +4,7 @@ use native.Mathlib.Omega.{arith}
 use lib.ListN.{take, length-set}
 use Rattle.small_requests.specs.Inside.Rows.{row_length}
 use Rattle.small_requests.proofs.Choosing.{below_fits, choose_begins, choose_room, choose_again, choose_ends, whole_written, shapes_over}
+use Rattle.writer.proofs.Writing.{wrote_room}
 use Rattle.small_requests.proofs.+write_shapes.Goals as goal
 
 pub returns-then-entries-eq0 : goal.returns-then-entries-eq0
@@ -68,4 +69,4 @@ returns-else-trees-eq0-2 t c =
     let w = c.write_shapes.ensures in
     let d = choose_again l.invariant.choosing h n w.wrote.place w.wrote.buffer w.row_value c.write_shapes.auto.row in
     let e = choose_ends a.row.now d (omega arith) (omega arith) (omega arith) r.3 in
-    record { wrote = record { buffer = e.1; place = e.0; same_reference = w.wrote.same_reference ∙ l.invariant.same_reference }; row_value = e.2 }
+    record { wrote = wrote_room c.requires.due_in_bounds e.1 e.0 (w.wrote.same_reference ∙ l.invariant.same_reference); row_value = e.2 }

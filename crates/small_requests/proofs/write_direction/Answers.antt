@@ -3,6 +3,7 @@ use Prim.Native.Nat.{◌+◌, ◌*◌}
 use native.Mathlib.Omega.{arith}
 use lib.ListN.{set}
 use Rattle.small_requests.proofs.Directions.{fronted, front_long, direct_begins, direct_room, direct_again, direct_ends}
+use Rattle.writer.proofs.Writing.{wrote_room}
 use Rattle.small_requests.proofs.write_direction.Goals as goal
 
 pub loop-trees-init : goal.loop-trees-init
@@ -32,7 +33,7 @@ pub returns : goal.returns
 returns c =
     let i = c.loop-trees.invariant in
     let e = direct_ends i.directing (omega arith) in
-    record { buffer = e.1; place = e.0; same_reference = i.same_reference }
+    wrote_room c.requires.size_in_bounds e.1 e.0 i.same_reference
 
 -- after the last one
 pub returns-2 : goal.returns-2
@@ -41,4 +42,4 @@ returns-2 c =
     let i = c.loop-trees.invariant in
     let d = direct_again i.directing (omega arith) (omega arith) {again = c.args.size} (omega arith) w.wrote.place w.wrote.buffer w.row_value c.write_shapes.auto.row in
     let e = direct_ends d (omega arith) in
-    record { buffer = e.1; place = e.0; same_reference = w.wrote.same_reference ∙ i.same_reference }
+    wrote_room c.requires.size_in_bounds e.1 e.0 (w.wrote.same_reference ∙ i.same_reference)

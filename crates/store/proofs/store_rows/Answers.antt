@@ -4,7 +4,7 @@ use Rattle.rules.specs.Answers.{answer}
 use Rattle.rules.proofs.Buffers.{written_all, kept}
 use Rattle.number.specs.Number.{bytes_of}
 use Rattle.number.proofs.Laws.{number_count}
-use Rattle.writer.proofs.Writing.{wrote_all, long_as_before}
+use Rattle.writer.proofs.Writing.{wrote_all}
 use Rattle.store.proofs.Writing.{bytes_most, whole_count, whole_written}
 use Rattle.store.proofs.store_rows.Goals as goal
 
@@ -24,7 +24,7 @@ write_rows-requires c =
     let n = c.new-writer.ensures in
     let l = ap (λ b. length b.now) n.0 in
     let w = wrote_all c.write_number.ensures.wrote (omega arith) in
-    omega (arith, w.place, long_as_before w (omega arith))
+    omega (arith, w.place, w.same_length)
 
 pub returns : goal.returns
 returns c =

@@ -1,6 +1,7 @@
 use Rattle.std.proofs.Common.{length, refl, ap, ◌∙◌, arith}
 use Rattle.stored.specs.Stored.{row_bytes, rows_bytes}
 use Rattle.table.proofs.RowBytes.{rest_all, rest_room, rest_next, rest_none, next_length, no_bytes}
+use Rattle.writer.proofs.Writing.{wrote_room}
 use Rattle.store.proofs.write_rows.Goals as goal
 
 pub loop-row-init : goal.loop-row-init
@@ -24,8 +25,4 @@ loop-row-preserved c =
 pub returns : goal.returns
 returns c =
     let i = c.loop-row.invariant in
-    record {
-      buffer = rest_none row_bytes i.rest c.in-None.ensures.steps.0;
-      place = omega (arith, ap length (no_bytes row_bytes c.in-None.ensures.steps.0));
-      same_reference = i.same_reference;
-    }
+    wrote_room c.requires (rest_none row_bytes i.rest c.in-None.ensures.steps.0) (omega (arith, ap length (no_bytes row_bytes c.in-None.ensures.steps.0))) i.same_reference
