@@ -3,9 +3,13 @@ use mathlib.Core.Path.{◌≡◌, refl, ap, sym, ◌∙◌}
 use mathlib.Core.List.{map, map-map}
 use Prim.Native.Nat.{ℕ, zero, suc, ◌<◌}
 use native.Mathlib.Omega.{arith}
+use mathlib.Core.Bool.{cond}
+use lib.Dec.{ltb}
 use lib.ListN.{length, get_or, take}
-use lib.Seq.{take-take}
-use borrow.Author.Tests.{eq-eqb, ne_eqb}
+use lib.Seq.{take-take, get_or-take, length-take-le}
+use borrow.Author.Tests.{eq-eqb, ne_eqb, lt-ltb}
+use Rattle.std.specs.Prelude.{Option, Some, None}
+use Rattle.std.specs.Option.{IsSome}
 use Rattle.rules.proofs.Cases.{by_eq}
 use Rattle.rules.specs.Answers.{answer, then}
 use Rattle.request.specs.Entries.{Entry, quota, quota_of}
@@ -13,7 +17,10 @@ use Rattle.request.specs.Request.{Request, entries}
 use Rattle.request.specs.Numbering.{whole}
 use Rattle.request.specs.Acceptance.{accepted}
 use Rattle.request.proofs.Numbering.{whole_total}
-use Rattle.table.specs.Columns.{Row, Columns, row_at, rows_from, rows}
+use Rattle.table.specs.declared.Row.{Row}
+use Rattle.table.specs.Columns.{Columns, row_at, rows_from, rows}
+use Rattle.table.specs.InUse.{columns_of, Cut}
+use Rattle.table.specs.declared.in_use.RowsInUse.{RowsInUse}
 use Rattle.table.specs.Check.{checked}
 use Rattle.table.specs.Places.{index_from, place_of}
 use Rattle.table.proofs.Passing.{Passed, check_passed}
@@ -67,3 +74,20 @@ module _ (c : Columns) (n : ℕ) (good : checked c n ≡ answer (rows c n)) wher
       let g : length (groups_of (rows c n)) ≡ n = groups_length (rows c n) ∙ rows_length c 0 n in
       let h = judged_is (groups_of (rows c n)) (ids_distinct (rows c n) passed.good.ids) (length c.id) a in
       rw (whole_total a.trees) (rw (group_ids, group_quotas, g, place_front a.exploded) at h)
+
+-- the row at a place of the rows in use
+module _ {u : RowsInUse} {c : Columns} {n i : ℕ} (k : Cut u c n) (h : i < n) where
+  in_use : length u.id.now ≡ n
+  in_use = ap length k.id ∙ length-take-le n c.id k.within
+
+  cut_row : row_at (columns_of u) i ≡ row_at c i
+  cut_row = rw (k.id, k.l, k.r, k.q, get_or-take n c.id i 0 h, get_or-take n c.l i 0 h, get_or-take n c.r i 0 h, get_or-take n c.q i 0 h)
+
+  got : cond (ltb i (length u.id.now)) (Some (row_at (columns_of u) i)) None ≡ Some (row_at c i)
+  got = rw (in_use, lt-ltb i n h, cut_row)
+
+  pub row_there : {o : Option Row} → o ≡ cond (ltb i (length u.id.now)) (Some (row_at (columns_of u) i)) None → IsSome o
+  row_there e = rw (e ∙ got)
+
+  pub row_is : {o : Option Row} {w : Row} → o ≡ cond (ltb i (length u.id.now)) (Some (row_at (columns_of u) i)) None → o ≡ Some w → w ≡ row_at c i
+  row_is e f = let g = sym f ∙ e ∙ got in cc

@@ -1,12 +1,12 @@
 -- A request that was read and judged: what the code asks and leaves, from what its calls say.
+use Rattle.std.specs.Prelude.{Ok}
 use mathlib.Core.Path.{◌≡◌, ap, sym, ◌∙◌}
-use mathlib.Core.Bool.{Bool}
 use mathlib.Core.List.{List, [], ◌∷◌, ◌++◌, map, map-append}
 use Prim.Native.Nat.{ℕ, zero, suc, ◌+◌, ◌-◌, ◌≤◌, ◌<◌}
 use native.Mathlib.Omega.{arith}
 use lib.ListN.{length, get_or, take, length-map}
 use lib.Seq.{sets, length-sets, length-take-le}
-use Rattle.rules.specs.Answers.{Answer, answer, refused, then}
+use Rattle.rules.specs.Answers.{answer, refused, then}
 use Rattle.rules.specs.Capacities.{entry_capacity}
 use Rattle.rules.specs.Limits.{greatest, most_entries}
 use Rattle.rules.specs.Buffers.{Bytes}
@@ -16,13 +16,15 @@ use Rattle.request.specs.Numbering.{whole}
 use Rattle.request.specs.Request.{Request, entries, left_of, right_of}
 use Rattle.request.specs.Reading.{request_of}
 use Rattle.request.specs.Acceptance.{accepted}
-use Rattle.reading.specs.Says.{Summary, summary}
+use Rattle.reading.specs.Summary.{summary}
+use Rattle.reading.specs.declared.Summary.{Summary}
 use Rattle.request.proofs.Accepting.{request_accepted}
 use Rattle.request.proofs.Numbering.{size_length}
 use Rattle.request.proofs.ReadLaws.{request_read, request_legal}
 use Rattle.request.specs.Forest.{Forest, none, tree, pre_l}
 use Rattle.request.specs.Legal.{LegalNumber, LegalTrees}
-use Rattle.table.specs.Columns.{Row, Columns, columns, rows, counted, afterwards}
+use Rattle.table.specs.declared.Row.{Row}
+use Rattle.table.specs.Columns.{Columns, row_at, rows, counted, afterwards}
 use Rattle.table.specs.Check.{checked}
 use Rattle.table.specs.Places.{place_of}
 use Rattle.judging.specs.Judging.{judged_in}
@@ -32,7 +34,6 @@ use Rattle.numbering.specs.Numbered.{EntriesIn, left_numbers, right_numbers}
 use Rattle.refine.specs.Refine.{groups_of, exploded_rows, refined}
 use Rattle.refine.specs.Inside.Placing.{placed_all, HasRows, Bounded, CanPlace}
 use Rattle.refine.specs.Inside.Verdicts.{Settles}
-use Rattle.refine.specs.declared.Verdict.TheVariants as verdict
 use Rattle.refine.proofs.Accepting.{passed, judged_rows}
 use Rattle.refine.proofs.Written.{rows_counted_lem, left_numbers_lem, right_numbers_lem, left_bounded, right_bounded, has_rows, columns_after_lem}
 
@@ -46,7 +47,7 @@ pub record Given (bytes : List ℕ) (x m z : ℕ) : Type 0 where
   pub entries_most : m ≤ most_entries
   pub quota_is : z ≡ whole request.trees
 
-pub given : (bytes : List ℕ) {x m z : ℕ} {up : Bool} → answer (record { exploded = x; upright = up; entries = m; quota = z }) ≡ summary (request_of bytes) → Given bytes x m z
+pub given : (bytes : List ℕ) {f : Summary} → answer f ≡ summary (request_of bytes) → Given bytes f.exploded f.entries f.quota
 given bytes e =
     by_answer (request_of bytes)
     (λ q k.
@@ -68,12 +69,6 @@ given bytes e =
 pub unread : (c : Columns) (n : ℕ) (bytes : List ℕ) {k : ℕ} → checked c n ≡ answer (rows c n) → refused k ≡ summary (request_of bytes) → refined c n bytes ≡ refused k
 unfolding refined
 unread c n bytes good e = rw (good, then_refused (request_of bytes) _ (sym e))
-
-pub refuses : (c : Columns) (found : Answer (List Row)) (k : ℕ) → found ≡ refused k → (refused k ≡ counted found) × (c ≡ afterwards found c)
-refuses c found k e = (rw e, rw e)
-
-pub columns_are : {id id' l l' r r' q q' : List ℕ} → id ≡ id' → l ≡ l' → r ≡ r' → q ≡ q' → columns id l r q ≡ columns id' l' r' q'
-columns_are a b c d = rw (a, b, c, d)
 
 -- a work column keeps its length
 pub filled : (s vs : List ℕ) {s' : List ℕ} → s' ≡ sets s 0 vs → length s ≡ entry_capacity → length s' ≡ entry_capacity
@@ -167,7 +162,7 @@ module _ (c : Columns) (n : ℕ) (good : checked c n ≡ answer (rows c n)) {byt
 
       -- what it leaves
       lands : (quotas' : List ℕ) → take m quotas' ≡ map quota (entries g.request)
-          → (answer (n + m - 1) ≡ counted (refined c n bytes)) × (placed_all x i n (get_or c.l i 0) (get_or c.r i 0) m ids' quotas' l' r' c ≡ afterwards (refined c n bytes) c)
+          → (answer (n + m - 1) ≡ counted (refined c n bytes)) × (placed_all (record { exploded = x; own = i; old = row_at c i; next = n; entries = m }) ids' quotas' l' r' c ≡ afterwards (refined c n bytes) c)
       unfolding refined exploded_rows
       lands quotas' eq =
           rw (good, g.is, ok) (
@@ -176,17 +171,17 @@ module _ (c : Columns) (n : ℕ) (good : checked c n ≡ answer (rows c n)) {byt
           )
 
       pub settles : Bytes bytes → (quotas' : List ℕ) → take m quotas' ≡ map quota (entries g.request) → length ids' ≡ entry_capacity → length quotas' ≡ entry_capacity
-          → Settles c n bytes ids' quotas' l' r' (verdict.Accepted x i (get_or c.l i 0) (get_or c.r i 0) m)
-      settles b quotas' eq il ql =
+          → {old : Row} → old ≡ row_at c i → Settles c n bytes ids' quotas' l' r' (Ok (record { exploded = x; own = i; old = old; next = n; entries = m }))
+      settles b quotas' eq il ql {old} was =
           let p = passed c n good in
           let bound = g.entries_most in
           let legal = (request_legal bytes b g.is).trees in
-          let place : CanPlace x i n (get_or c.l i 0) (get_or c.r i 0) m ids' quotas' l' r' c = record {
+          let place : CanPlace (record { exploded = x; own = i; old = row_at c i; next = n; entries = m }) ids' quotas' l' r' c = record {
             most = omega (arith, bound);
             in_ids = omega (arith, bound, il);
             in_quotas = omega (arith, bound, ql);
-            in_before_l = omega (arith, bound, filled l (left_numbers (request_of bytes)) hl ll);
-            in_before_r = omega (arith, bound, filled r (right_numbers (request_of bytes)) hr rl);
+            in_l = omega (arith, bound, filled l (left_numbers (request_of bytes)) hl ll);
+            in_r = omega (arith, bound, filled r (right_numbers (request_of bytes)) hr rl);
             next_in = p.most;
             id_rows = asks.0;
             l_rows = (asks.0.0, omega (arith, asks.0.1, p.lengths.in_l));
@@ -197,4 +192,4 @@ module _ (c : Columns) (n : ℕ) (good : checked c n ≡ answer (rows c n)) {byt
             r_bounded = asks.2;
             quotas_bounded = λ k h. rw eq (omega (arith, legal_quotas g.request.trees legal k));
           } in
-          (place, (lands quotas' eq).0, (lands quotas' eq).1)
+          rw was (place, (lands quotas' eq).0, (lands quotas' eq).1)

@@ -10,7 +10,8 @@ use Rattle.rules.proofs.Answers.{same_answer, then_answer}
 use Rattle.request.specs.Reading.{request_of}
 use Rattle.request.specs.Acceptance.{accepted}
 use Rattle.request.proofs.Accepting.{request_accepted}
-use Rattle.table.specs.Columns.{Row, Columns}
+use Rattle.table.specs.declared.Row.{Row}
+use Rattle.table.specs.Columns.{Columns}
 use Rattle.table.specs.Check.{checked}
 use Rattle.table.proofs.Passing.{check_passed}
 use Rattle.refine.specs.Refine.{groups_of, refined, exploded_rows}

@@ -1,4 +1,3 @@
-pub mod Front
 pub mod PlacingLaws
 pub mod Placement
 pub mod Accepting

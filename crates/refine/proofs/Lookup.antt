@@ -10,7 +10,8 @@ use borrow.Author.Tests.{eqb-true}
 use Rattle.rules.proofs.Bools.{or_none}
 use Rattle.request.specs.Entries.{pick, times, quota_of, Distinct}
 use Rattle.request.proofs.Sums.{quota_none}
-use Rattle.table.specs.Columns.{Row, l_of, r_of}
+use Rattle.table.specs.declared.Row.{Row}
+use Rattle.table.specs.Columns.{l_of, r_of}
 use Rattle.table.specs.Check.{some_row, some_pair, same_id}
 use Rattle.refine.specs.Refine.{groups_of, row_in}
 

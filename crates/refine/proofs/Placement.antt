@@ -11,7 +11,8 @@ use borrow.Author.Tests.{eq-eqb, ne_eqb, eqb-true}
 use Rattle.rules.proofs.Cases.{by_lt, by_eq}
 use Rattle.request.specs.Entries.{Entry, entry_of, pick, sum, times, without}
 use Rattle.request.specs.Request.{Request, entries}
-use Rattle.table.specs.Columns.{Row, Columns, row_at, rows_from, rows, overlay}
+use Rattle.table.specs.declared.Row.{Row}
+use Rattle.table.specs.Columns.{Columns, row_at, rows_from, rows, overlay}
 use Rattle.table.specs.Check.{some_pair, same_id}
 use Rattle.table.proofs.Tests.{some_found, pair_found}
 use Rattle.refine.specs.Refine.{row_in, row_for, kept_row, kept_rows, new_rows, refine_rows}

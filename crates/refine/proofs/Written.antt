@@ -17,7 +17,8 @@ use Rattle.request.proofs.Numbering.{whole_total, lefts_are, rights_are}
 use Rattle.request.proofs.ReadLaws.{ReadRequest, request_read}
 use Rattle.request.proofs.Sums.{before_within, positive_quota}
 use Rattle.request.proofs.Trees.{same_left, same_right}
-use Rattle.table.specs.Columns.{Row, Columns, row_at, rows, put, overlay}
+use Rattle.table.specs.declared.Row.{Row}
+use Rattle.table.specs.Columns.{Columns, row_at, rows, put, overlay}
 use Rattle.table.specs.Check.{checked}
 use Rattle.table.specs.Sound.{SoundRow}
 use Rattle.table.proofs.Rows.{rows_length}
@@ -139,7 +140,7 @@ module _ (c : Columns) (n : ℕ) (good : checked c n ≡ answer (rows c n)) (byt
 
     -- the columns that the code leaves
     pub columns_after_lem : (m : ℕ) (w s l r : List ℕ) → take m w ≡ ids → take m s ≡ map quota (entries a) → take m l ≡ map (λ e. 0 + before e.id (left_of a)) (entries a)
-        → take m r ≡ map (λ e. 0 + before e.id (right_of a)) (entries a) → placed_all a.exploded own n (get_or c.l own 0) (get_or c.r own 0) m w s l r c ≡ put (refine_rows a (rows c n)) c
+        → take m r ≡ map (λ e. 0 + before e.id (right_of a)) (entries a) → placed_all (record { exploded = a.exploded; own = own; old = row_at c own; next = n; entries = m }) w s l r c ≡ put (refine_rows a (rows c n)) c
     unfolding put
     columns_after_lem m w s l r ew es el er =
         let lens = (passed c n good).lengths in

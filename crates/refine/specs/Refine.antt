@@ -5,7 +5,8 @@ use Rattle.request.specs.Entries.{Entry, entry, entry_of, quota, before, without
 use Rattle.request.specs.Request.{Request, entries, left_of, right_of}
 use Rattle.request.specs.Reading.{request_of}
 use Rattle.request.specs.Acceptance.{accepted}
-use Rattle.table.specs.Columns.{Row, low_l, low_r, size_of, Columns, Table, counted, afterwards}
+use Rattle.table.specs.declared.Row.{Row}
+use Rattle.table.specs.Columns.{low_l, low_r, size_of, Columns, Table, counted, afterwards}
 use Rattle.table.specs.Check.{checked}
 
 -- a row's group: its id and its quota

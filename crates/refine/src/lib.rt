@@ -5,18 +5,14 @@ mod placing;
 mod refining;
 
 pub use refining::refine;
-use rules::Refusal;
+use table::Row;
 
-// What a request to a table comes to.
+// A request that a table accepts: the exploded id, its row and what stands there, the row after those in use, and the number of entries.
 #[derive(Clone, Copy)]
-enum Verdict {
-    // The exploded id, its row and what it has there, and the number of entries.
-    Accepted {
-        exploded: u32,
-        own: usize,
-        old_l: u32,
-        old_r: u32,
-        entries: usize,
-    },
-    Refused(Refusal),
+struct Accepted {
+    exploded: u32,
+    own: usize,
+    old: Row,
+    next: usize,
+    entries: usize,
 }

@@ -1,39 +1,26 @@
 // The rows of an accepted request, written column by column.
-ghost use Rattle.std.specs.Prelude.{◌≡◌, ◌≤◌, length, take};
-ghost use Rattle.rules.specs.Capacities.{entry_capacity};
+ghost use Rattle.std.specs.Prelude.{◌≡◌, length};
 ghost use Rattle.table.specs.Columns.{columns};
 ghost use Rattle.refine.specs.Inside.Placing.{placed, placed_all, HasRows, Bounded, CanPlace};
 
-use rules::ENTRY_CAPACITY;
+use crate::Accepted;
+use numbering::Numbered;
 
-// Writes the entries' values, with `base` added, into one column: that of the exploded id at row `own`, the others at the rows from
-// `next` on.
-fn place(
-    column: &mut [u32],
-    own: usize,
-    next: usize,
-    exploded: u32,
-    base: u32,
-    ids: &[u32; ENTRY_CAPACITY],
-    values: &[u32; ENTRY_CAPACITY],
-    entries: usize,
-)
-    requires entries_le_entry_capacity { (entries ≤ entry_capacity) × (entries ≤ length ids.now) × (entries ≤ length values.now) }
-    requires has_rows { HasRows exploded own next (take entries ids.now) column.old }
-    requires bounded { Bounded base (take entries values.now) }
-    ensures { column.new ≡ placed exploded own next base (take entries ids.now) (take entries values.now) column.old }
+// Writes the entries' values, with `base` added, into one column: that of the exploded id at its row, the others at the next rows.
+fn place(column: &mut [u32], accepted: Accepted, base: u32, ids: &[u32], values: &[u32])
+    requires same_length { length values.now ≡ length ids.now }
+    requires has_rows { HasRows accepted.exploded accepted.own accepted.next ids.now column.old }
+    requires bounded { Bounded base values.now }
+    ensures { column.new ≡ placed accepted.exploded accepted.own accepted.next base ids.now values.now column.old }
 {
-    let mut row = next;
-    let mut i = 0;
-    while i < entries {
-        let value = base + values[i];
-        if ids[i] == exploded {
-            column[own] = value;
+    let mut row = accepted.next;
+    for (x, value) in ids.iter().zip(values) {
+        if *x == accepted.exploded {
+            column[accepted.own] = base + *value;
         } else {
-            column[row] = value;
+            column[row] = base + *value;
             row += 1;
         }
-        i += 1;
     }
 }
 
@@ -43,22 +30,17 @@ pub(crate) fn write_rows(
     l: &mut [u32],
     r: &mut [u32],
     q: &mut [u32],
-    next: usize,
-    exploded: u32,
-    own: usize,
-    old_l: u32,
-    old_r: u32,
-    entries: usize,
-    ids: &[u32; ENTRY_CAPACITY],
-    quotas: &[u32; ENTRY_CAPACITY],
-    before_l: &[u32; ENTRY_CAPACITY],
-    before_r: &[u32; ENTRY_CAPACITY],
+    accepted: Accepted,
+    numbered: &Numbered,
 )
-    requires { CanPlace exploded own next old_l old_r entries ids.now quotas.now before_l.now before_r.now (columns id.old l.old r.old q.old) }
-    ensures { columns id.new l.new r.new q.new ≡ placed_all exploded own next old_l old_r entries ids.now quotas.now before_l.now before_r.now (columns id.old l.old r.old q.old) }
+    requires { CanPlace accepted numbered.now.work.ids numbered.now.work.quotas numbered.now.l numbered.now.r (columns id.old l.old r.old q.old) }
+    ensures { columns id.new l.new r.new q.new ≡ placed_all accepted numbered.now.work.ids numbered.now.work.quotas numbered.now.l numbered.now.r (columns id.old l.old r.old q.old) }
 {
-    place(id, own, next, exploded, 0, ids, ids, entries);
-    place(l, own, next, exploded, old_l, ids, before_l, entries);
-    place(r, own, next, exploded, old_r, ids, before_r, entries);
-    place(q, own, next, exploded, 0, ids, quotas, entries);
+    let n = accepted.entries;
+    let old = accepted.old;
+    let ids = &numbered.work.ids[..n];
+    place(id, accepted, 0, ids, ids);
+    place(l, accepted, old.l, ids, &numbered.l[..n]);
+    place(r, accepted, old.r, ids, &numbered.r[..n]);
+    place(q, accepted, 0, ids, &numbered.work.quotas[..n]);
 }

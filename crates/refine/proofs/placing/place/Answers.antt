@@ -1,37 +1,36 @@
--- What is left to write makes the whole column.
-use Rattle.std.proofs.Common.{arith}
-use Rattle.refine.proofs.PlacingLaws.{own_fits, row_fits, at_own, at_row, done}
+use Rattle.std.proofs.Common.{◌≡◌, arith, rules}
+use Rattle.std.specs.Iterator.Adapters.{zip_first, zip_second}
+use Rattle.std.specs.Slice.Iter.{iter_rest}
+use Rattle.std.proofs.lemmas.Slice.Zip.{either_empty_from_Zip}
+use Rattle.refine.proofs.PlacingLaws.{begins, done, own_fits, row_fits, at_own, at_row}
 use Rattle.refine.proofs.placing.place.Goals as goal
-use Rattle.refine.proofs.placing.place.Goals.{then-ids-i, else-ids-i}
 
-pub offset_bounds-column-own : goal.offset_bounds-column-own
-offset_bounds-column-own c =
-    let p = c.requires.entries_le_entry_capacity in
-    omega (arith, own_fits p.1 p.2 c.loop-i.invariant c.loop-i-test.true, c.loop-i.invariant.same, c.well_formed)
+pub loop-x-init : goal.loop-x-init
+loop-x-init c =
+    let a : iter_rest (zip_first c.into_iter-x-iterator.result) ≡ c.args.ids.now = search rules in
+    let b : iter_rest (zip_second c.into_iter-x-iterator.result) ≡ c.args.values.now = search rules in
+    begins a b c.requires.same_length c.requires.has_rows
 
-pub bounds-column-own : goal.bounds-column-own
-bounds-column-own c = let p = c.requires.entries_le_entry_capacity in own_fits p.1 p.2 c.loop-i.invariant c.loop-i-test.true
+pub bounds-column-accepted : goal.bounds-column-accepted
+bounds-column-accepted c = let s = c.in-Some.ensures.steps in own_fits c.loop-x.invariant s.0 s.1
 
-pub offset_bounds-column-row : goal.offset_bounds-column-row
-offset_bounds-column-row c =
-    let p = c.requires.entries_le_entry_capacity in
-    omega (arith, row_fits p.1 p.2 c.loop-i.invariant c.loop-i-test.true c.if-ids-i.false, c.loop-i.invariant.same, c.well_formed)
+pub offset_bounds-column-accepted : goal.offset_bounds-column-accepted
+offset_bounds-column-accepted c = let s = c.in-Some.ensures.steps in omega (arith, own_fits c.loop-x.invariant s.0 s.1)
 
 pub bounds-column-row : goal.bounds-column-row
-bounds-column-row c = let p = c.requires.entries_le_entry_capacity in row_fits p.1 p.2 c.loop-i.invariant c.loop-i-test.true c.if-ids-i.false
+bounds-column-row c = let s = c.in-Some.ensures.steps in row_fits c.loop-x.invariant s.0 s.1 c.if-x-accepted.false
+
+pub offset_bounds-column-row : goal.offset_bounds-column-row
+offset_bounds-column-row c = let s = c.in-Some.ensures.steps in omega (arith, row_fits c.loop-x.invariant s.0 s.1 c.if-x-accepted.false, c.loop-x.invariant.same, c.well_formed)
 
 pub overflow_add-row : goal.overflow_add-row
-overflow_add-row c =
-    let p = c.requires.entries_le_entry_capacity in
-    omega (arith, row_fits p.1 p.2 c.loop-i.invariant c.loop-i-test.true c.if-ids-i.false, c.loop-i.invariant.same, c.well_formed)
+overflow_add-row c = let s = c.in-Some.ensures.steps in omega (arith, row_fits c.loop-x.invariant s.0 s.1 c.if-x-accepted.false, c.loop-x.invariant.same, c.well_formed)
 
-pub loop-i-preserved : goal.loop-i-preserved
-loop-i-preserved c =
-    let p = c.requires.entries_le_entry_capacity in
-    elim c.if-ids-i.branch [
-      | then-ids-i w ↦ rw (w.column-is, w.row-is) (at_own p.1 p.2 c.loop-i.invariant c.loop-i-test.true w.if-ids-i.true)
-      | else-ids-i w ↦ rw (w.column-is, w.row-is) (at_row p.1 p.2 c.loop-i.invariant c.loop-i-test.true w.if-ids-i.false)
-    ]
+pub loop-x-preserved-then-x-accepted : goal.loop-x-preserved-then-x-accepted
+loop-x-preserved-then-x-accepted c = let s = c.in-Some.ensures.steps in at_own c.loop-x.invariant s.0 s.1 c.if-x-accepted.true
+
+pub loop-x-preserved : goal.loop-x-preserved
+loop-x-preserved c = let s = c.in-Some.ensures.steps in at_row c.loop-x.invariant s.0 s.1 c.if-x-accepted.false
 
 pub returns : goal.returns
-returns c = let p = c.requires.entries_le_entry_capacity in done p.1 p.2 c.loop-i.invariant c.loop-i-test.false
+returns c = done c.loop-x.invariant (either_empty_from_Zip c.loop-x.x-iterator c.next.new.self _ c.in-None.is c.next.ensures.steps)

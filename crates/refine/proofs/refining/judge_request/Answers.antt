@@ -1,6 +1,7 @@
 -- The table is checked, the request is read and numbered, and judged.
-use Rattle.std.proofs.Common.{◌≡◌, length, map, take, sym, arith}
+use Rattle.std.proofs.Common.{◌≡◌, ◌<◌, length, map, take, sym, arith}
 use Rattle.std.proofs.Math.Seq.{length-take-le}
+use Rattle.std.proofs.lemmas.Result.{err_from_is_err_and}
 use Rattle.rules.specs.Answers.{answer}
 use Rattle.request.specs.Request.{entries}
 use Rattle.table.specs.Check.{checked}
@@ -8,89 +9,69 @@ use Rattle.table.specs.Columns.{columns, rows}
 use Rattle.table.proofs.Passing.{sound, unsound}
 use Rattle.judging.proofs.Accepting.{judged_row}
 use Rattle.refine.specs.Refine.{refined}
-use Rattle.refine.proofs.Accepting.{passed}
+use Rattle.refine.proofs.Accepting.{row_there, row_is}
 use Rattle.refine.proofs.Carrying.{given, unread, ids_front, quotas_front, ids_length, quotas_length, judged_refused, settles}
 use Rattle.refine.proofs.refining.judge_request.Goals as goal
 
-pub judge_rows-requires : goal.judge_rows-requires
-judge_rows-requires c =
-    let cols = columns c.args.id.now c.args.l.now c.args.r.now c.args.q.now in
-    let good : checked cols c.args.count ≡ answer (rows cols c.args.count) = (sound _ _ c.check_columns.ensures c.in-Sound.is).1 in
-    let p = passed cols c.args.count good in
-    let n = c.number_request in
-    let g = given c.args.request.now c.in-Request.ensures.result_value in
-    let il = ids_length g c.args.ids.now n.new.ids c.args.quotas.now n.new.quotas n.ensures.entries_in c.requires.ids_len.0 in
-    (p.most, omega (arith, p.most, p.lengths.in_q), omega (arith, g.entries_most, il))
-
--- its row is in the columns
-pub offset_bounds-l-own : goal.offset_bounds-l-own
-offset_bounds-l-own c =
-    let cols = columns c.args.id.now c.args.l.now c.args.r.now c.args.q.now in
-    let good : checked cols c.args.count ≡ answer (rows cols c.args.count) = (sound _ _ c.check_columns.ensures c.in-Sound.is).1 in
-    let p = passed cols c.args.count good in
-    let h = (judged_row (take c.args.count c.args.id.now) (take c.args.count c.args.q.now) (length c.args.id.now) c.in-Request.exploded
-    (take c.in-Request.entries c.number_request.new.ids) c.in-Request.quota (sym c.in-Row.ensures)).1 in
-    omega (arith, h, length-take-le c.args.count c.args.id.now p.most, p.most, p.lengths.in_l)
-
-pub bounds-l-own : goal.bounds-l-own
-bounds-l-own c =
-    let cols = columns c.args.id.now c.args.l.now c.args.r.now c.args.q.now in
-    let good : checked cols c.args.count ≡ answer (rows cols c.args.count) = (sound _ _ c.check_columns.ensures c.in-Sound.is).1 in
-    let p = passed cols c.args.count good in
-    let h = (judged_row (take c.args.count c.args.id.now) (take c.args.count c.args.q.now) (length c.args.id.now) c.in-Request.exploded
-    (take c.in-Request.entries c.number_request.new.ids) c.in-Request.quota (sym c.in-Row.ensures)).1 in
-    omega (arith, h, length-take-le c.args.count c.args.id.now p.most, p.most, p.lengths.in_l)
-
-pub offset_bounds-r-own : goal.offset_bounds-r-own
-offset_bounds-r-own c =
-    let cols = columns c.args.id.now c.args.l.now c.args.r.now c.args.q.now in
-    let good : checked cols c.args.count ≡ answer (rows cols c.args.count) = (sound _ _ c.check_columns.ensures c.in-Sound.is).1 in
-    let p = passed cols c.args.count good in
-    let h = (judged_row (take c.args.count c.args.id.now) (take c.args.count c.args.q.now) (length c.args.id.now) c.in-Request.exploded
-    (take c.in-Request.entries c.number_request.new.ids) c.in-Request.quota (sym c.in-Row.ensures)).1 in
-    omega (arith, h, length-take-le c.args.count c.args.id.now p.most, p.most, p.lengths.in_r)
-
-pub bounds-r-own : goal.bounds-r-own
-bounds-r-own c =
-    let cols = columns c.args.id.now c.args.l.now c.args.r.now c.args.q.now in
-    let good : checked cols c.args.count ≡ answer (rows cols c.args.count) = (sound _ _ c.check_columns.ensures c.in-Sound.is).1 in
-    let p = passed cols c.args.count good in
-    let h = (judged_row (take c.args.count c.args.id.now) (take c.args.count c.args.q.now) (length c.args.id.now) c.in-Request.exploded
-    (take c.in-Request.entries c.number_request.new.ids) c.in-Request.quota (sym c.in-Row.ensures)).1 in
-    omega (arith, h, length-take-le c.args.count c.args.id.now p.most, p.most, p.lengths.in_r)
-
-pub returns-in-Refused : goal.returns-in-Refused
+pub returns-in_err-rows : goal.returns-in_err-rows
 unfolding refined
-returns-in-Refused c = rw (unsound _ _ c.check_columns.ensures c.in-Refused.is)
+returns-in_err-rows c =
+    let p = err_from_is_err_and c.from_residual.result c.from_residual.ensures.1 in
+    rw (p.1, p.2, unsound _ _ c.check_columns.ensures.rows c.in_err-rows.was)
 
-pub returns-in-Refused-number_request : goal.returns-in-Refused-number_request
-returns-in-Refused-number_request c =
+pub returns-in_err-read : goal.returns-in_err-read
+returns-in_err-read c =
     let cols = columns c.args.id.now c.args.l.now c.args.r.now c.args.q.now in
-    let good : checked cols c.args.count ≡ answer (rows cols c.args.count) = (sound _ _ c.check_columns.ensures c.in-Sound.is).1 in
-    unread cols c.args.count c.args.request.now good c.in-Refused-number_request.ensures.result_value
+    let good : checked cols c.args.count ≡ answer (rows cols c.args.count) = (sound _ _ c.check_columns.ensures.rows c.in_ok-rows.was).1 in
+    let p = err_from_is_err_and c.from_residual-in_err-read.result c.from_residual-in_err-read.ensures.1 in
+    rw (p.1, p.2) (unread cols c.args.count c.args.request.now good c.in_err-read.ensures.result_value)
 
-pub returns-in-Refused-judge_rows : goal.returns-in-Refused-judge_rows
-returns-in-Refused-judge_rows c =
-    let cols = columns c.args.id.now c.args.l.now c.args.r.now c.args.q.now in
-    let good : checked cols c.args.count ≡ answer (rows cols c.args.count) = (sound _ _ c.check_columns.ensures c.in-Sound.is).1 in
-    let n = c.number_request in
-    let g = given c.args.request.now c.in-Request.ensures.result_value in
-    let front : take c.in-Request.entries n.new.ids ≡ map (λ e. e.id) (entries g.request) =
-    ids_front g c.args.ids.now n.new.ids c.args.quotas.now n.new.quotas n.ensures.entries_in c.requires.ids_len.0 in
-    judged_refused cols c.args.count good g n.new.ids front c.in-Refused-judge_rows.ensures
+pub shared_ref_as_front-ids : goal.shared_ref_as_front-ids
+shared_ref_as_front-ids c =
+    let g = given c.args.request.now c.in_ok-read.ensures.result_value in
+    omega (arith, g.entries_most)
 
-pub returns-in-Row : goal.returns-in-Row
-returns-in-Row c =
+-- what was judged are the ids and quotas of the rows in use
+pub returns-in_err-own : goal.returns-in_err-own
+returns-in_err-own c =
     let cols = columns c.args.id.now c.args.l.now c.args.r.now c.args.q.now in
-    let good : checked cols c.args.count ≡ answer (rows cols c.args.count) = (sound _ _ c.check_columns.ensures c.in-Sound.is).1 in
-    let n = c.number_request in
-    let ids = c.args.ids.now in
-    let quotas = c.args.quotas.now in
-    let g = given c.args.request.now c.in-Request.ensures.result_value in
-    let h = n.ensures.entries_in in
-    let front : take c.in-Request.entries n.new.ids ≡ map (λ e. e.id) (entries g.request) =
-    ids_front g ids n.new.ids quotas n.new.quotas h c.requires.ids_len.0 in
-    settles cols c.args.count good g n.new.ids front c.in-Row.ensures c.args.before_l.now n.new.l c.args.before_r.now n.new.r n.ensures.begins.0
-    n.ensures.begins.1 c.requires.before_l_len.0 c.requires.before_l_len.1 (λ i. omega (arith, c.type_inv.request i)) n.new.quotas
-    (quotas_front g ids n.new.ids quotas n.new.quotas h c.requires.ids_len.1) (ids_length g ids n.new.ids quotas n.new.quotas h c.requires.ids_len.0)
-    (quotas_length g ids n.new.ids quotas n.new.quotas h c.requires.ids_len.1)
+    let good : checked cols c.args.count ≡ answer (rows cols c.args.count) = (sound _ _ c.check_columns.ensures.rows c.in_ok-rows.was).1 in
+    let g = given c.args.request.now c.in_ok-read.ensures.result_value in
+    let front : take c.in_ok-read.read.entries c.number_request.new.numbered.work.ids ≡ map (λ e. e.id) (entries g.request) =
+    ids_front g c.args.numbered.now.work.ids c.number_request.new.numbered.work.ids c.args.numbered.now.work.quotas c.number_request.new.numbered.work.quotas c.number_request.ensures.entries_in c.requires.ids_len.0 in
+    let k = c.in_ok-rows.ensures.cut in
+    let j = rw (c.id.ensures, k.id, c.q.ensures, k.q) at c.in_err-own.ensures in
+    let p = err_from_is_err_and c.from_residual-in_err-own.result c.from_residual-in_err-own.ensures.1 in
+    rw (p.1, p.2) (judged_refused cols c.args.count good g c.number_request.new.numbered.work.ids front j)
+
+-- its row is one of them
+pub unwrap-old-requires : goal.unwrap-old-requires
+unwrap-old-requires c =
+    let k = c.in_ok-rows.ensures.cut in
+    let j = rw (c.id.ensures, k.id, c.q.ensures, k.q) at c.in_ok-own.ensures in
+    let h = (judged_row (take c.args.count c.args.id.now) (take c.args.count c.args.q.now) (length c.args.id.now) c.in_ok-read.read.exploded
+    (take c.in_ok-read.read.entries c.number_request.new.numbered.work.ids) c.in_ok-read.read.quota (sym j)).1 in
+    let there : c.in_ok-own.own < c.args.count = omega (arith, h, length-take-le c.args.count c.args.id.now k.within) in
+    row_there k there c.get.ensures
+
+pub returns : goal.returns
+returns c =
+    let cols = columns c.args.id.now c.args.l.now c.args.r.now c.args.q.now in
+    let good : checked cols c.args.count ≡ answer (rows cols c.args.count) = (sound _ _ c.check_columns.ensures.rows c.in_ok-rows.was).1 in
+    let g = given c.args.request.now c.in_ok-read.ensures.result_value in
+    let w = c.number_request.new.numbered in
+    let e = c.number_request.ensures.entries_in in
+    let n = c.requires.ids_len in
+    let b = c.requires.l_len in
+    let front : take c.in_ok-read.read.entries w.work.ids ≡ map (λ e. e.id) (entries g.request) =
+    ids_front g c.args.numbered.now.work.ids w.work.ids c.args.numbered.now.work.quotas w.work.quotas e n.0 in
+    let k = c.in_ok-rows.ensures.cut in
+    let j = rw (c.id.ensures, k.id, c.q.ensures, k.q) at c.in_ok-own.ensures in
+    let h = (judged_row (take c.args.count c.args.id.now) (take c.args.count c.args.q.now) (length c.args.id.now) c.in_ok-read.read.exploded
+    (take c.in_ok-read.read.entries w.work.ids) c.in_ok-read.read.quota (sym j)).1 in
+    let there : c.in_ok-own.own < c.args.count = omega (arith, h, length-take-le c.args.count c.args.id.now k.within) in
+    settles cols c.args.count good g w.work.ids front j c.args.numbered.now.l w.l c.args.numbered.now.r w.r c.number_request.ensures.begins.0 c.number_request.ensures.begins.1 b.0 b.1
+    (λ i. omega (arith, c.type_inv.request i)) w.work.quotas
+    (quotas_front g c.args.numbered.now.work.ids w.work.ids c.args.numbered.now.work.quotas w.work.quotas e n.1) (ids_length g c.args.numbered.now.work.ids w.work.ids c.args.numbered.now.work.quotas w.work.quotas e n.0)
+    (quotas_length g c.args.numbered.now.work.ids w.work.ids c.args.numbered.now.work.quotas w.work.quotas e n.1)
+    (row_is k there c.get.ensures c.unwrap-old.ensures)
