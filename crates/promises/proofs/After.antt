@@ -13,7 +13,7 @@ use Rattle.rules.proofs.Cases.{by_eq}
 use Rattle.request.specs.Entries.{Entry, entry, entry_of, pick, one_at, sum, times, quota_of, Same, Distinct, without}
 use Rattle.request.specs.Request.{Request, entries}
 use Rattle.request.proofs.Sums.{sum_append, eqb_same, quota_none, length_sum}
-use Rattle.table.specs.Columns.{Row}
+use Rattle.table.specs.declared.Row.{Row}
 use Rattle.refine.specs.Refine.{group_of, groups_of, row_in, row_for, kept_rows, new_rows, refine_rows}
 use Rattle.promises.specs.Theorems.{OtherIn}
 use Rattle.refine.proofs.Lookup.{groups_length}

@@ -11,7 +11,8 @@ use Rattle.request.proofs.Sums.{before_within, positive_quota, apart}
 use Rattle.request.proofs.Trees.{same_left, same_right}
 use Rattle.request.proofs.ReadLaws.{ReadRequest}
 use Rattle.request.proofs.Accepting.{Accepted}
-use Rattle.table.specs.Columns.{Row, low_l, low_r, size_of}
+use Rattle.table.specs.declared.Row.{Row}
+use Rattle.table.specs.Columns.{low_l, low_r, size_of}
 use Rattle.table.specs.Sound.{SoundRow}
 use Rattle.refine.specs.Refine.{groups_of, refine_rows}
 use Rattle.promises.specs.Theorems.{OtherIn}

@@ -22,7 +22,8 @@ use Rattle.request.proofs.Sums.{no_later, later_iff, sum_at, own_quotas}
 use Rattle.request.proofs.Trees
 use Rattle.request.proofs.ReadLaws.{request_read}
 use Rattle.request.proofs.Accepting.{request_accepted}
-use Rattle.table.specs.Columns.{Row, Columns, rows, l_of, r_of}
+use Rattle.table.specs.declared.Row.{Row}
+use Rattle.table.specs.Columns.{Columns, rows, l_of, r_of}
 use Rattle.table.specs.Check.{sound_rows, checked}
 use Rattle.table.proofs.Passing.{rows_good, check_passed}
 use Rattle.order.specs.Order.{subgroup}

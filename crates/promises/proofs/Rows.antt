@@ -10,7 +10,7 @@ use borrow.Author.Tests.{eqb-true, ne_eqb}
 use Rattle.rules.proofs.Bools.{or_none}
 use Rattle.request.specs.Entries.{pick, times, Distinct}
 use Rattle.request.proofs.Sums.{eqb_same, count_head}
-use Rattle.table.specs.Columns.{Row}
+use Rattle.table.specs.declared.Row.{Row}
 use Rattle.table.specs.Check.{some_row, some_pair, same_id}
 use Rattle.refine.specs.Refine.{groups_of, row_in}
 use Rattle.refine.proofs.Lookup.{id_row}

@@ -3,7 +3,7 @@ use mathlib.Core.Path.{◌≡◌}
 use mathlib.Core.Bool.{false, not}
 use mathlib.Core.List.{List}
 use mathlib.Core.Logic.{◌≢◌, ◌⊎◌, inl, inr}
-use Prim.Native.Nat.{ℕ, ◌-◌, ◌≤◌}
+use Prim.Native.Nat.{ℕ, ◌≤◌}
 use borrow.Author.Tests.{not-false}
 use Rattle.rules.specs.Answers.{answer}
 use Rattle.rules.proofs.Bools.{or_none}
@@ -11,7 +11,8 @@ use Rattle.coordinates.specs.Coordinates.{apart}
 use Rattle.rules.proofs.Ranges.{Clear}
 use Rattle.coordinates.proofs.Ranges.{apart_clear, clear_apart}
 use Rattle.request.specs.Entries.{times, Distinct}
-use Rattle.table.specs.Columns.{Row, low_l, low_r, size_of}
+use Rattle.table.specs.declared.Row.{Row}
+use Rattle.table.specs.Columns.{low_l, low_r, size_of}
 use Rattle.table.specs.Check.{value_bad, ranges_meet, sound_rows}
 use Rattle.table.specs.Sound.{SoundRow}
 use Rattle.table.proofs.Soundness.{value_sound, sound_value}

@@ -6,7 +6,8 @@ use Rattle.boxes.specs.declared.Box.{Box}
 use Rattle.request.specs.Entries.{sum, times, quota_of, before, Same, without}
 use Rattle.request.specs.Forest.{tree_order}
 use Rattle.request.specs.Request.{Request, entries, left_of, right_of}
-use Rattle.table.specs.Columns.{Row, low_l, low_r, size_of, l_of, r_of}
+use Rattle.table.specs.declared.Row.{Row}
+use Rattle.table.specs.Columns.{low_l, low_r, size_of, l_of, r_of}
 use Rattle.table.specs.Check.{sound_rows}
 use Rattle.order.specs.Order.{subgroup}
 use Rattle.refine.specs.Refine.{groups_of, row_in}
