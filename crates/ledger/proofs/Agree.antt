@@ -6,7 +6,8 @@ use mathlib.Core.List.{List}
 use lib.ListN.{length}
 use Rattle.rules.specs.Answers.{answer}
 use Rattle.request.specs.Entries.{times, Same}
-use Rattle.table.specs.Columns.{Row, low_l, low_r, l_of, r_of, Table, rows_in}
+use Rattle.table.specs.declared.Row.{Row}
+use Rattle.table.specs.Columns.{low_l, low_r, l_of, r_of, Table, rows_in}
 use Rattle.table.specs.Check.{lengths_bad, sound_rows}
 use Rattle.order.specs.Order.{subgroup}
 use Rattle.refine.specs.Refine.{groups_of, row_in}

@@ -14,7 +14,7 @@ use Rattle.request.specs.Request.{Request}
 use Rattle.request.specs.Reading.{request_of}
 use Rattle.request.specs.Acceptance.{accepted}
 use Rattle.request.proofs.Accepting.{request_accepted}
-use Rattle.table.specs.Columns.{Row}
+use Rattle.table.specs.declared.Row.{Row}
 use Rattle.order.specs.Order.{row_of, order_in}
 use Rattle.refine.specs.Refine.{groups_of}
 use Rattle.refine.proofs.Lookup.{id_row}

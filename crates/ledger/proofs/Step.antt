@@ -8,7 +8,7 @@ use Rattle.request.specs.Entries.{Entry, quota, one_at, quota_at, total, times, 
 use Rattle.request.specs.Request.{Request, entries, left_of, right_of}
 use Rattle.request.proofs.Sums.{sum_append}
 use Rattle.request.proofs.Trees.{same_left, same_right}
-use Rattle.table.specs.Columns.{Row}
+use Rattle.table.specs.declared.Row.{Row}
 use Rattle.refine.specs.Refine.{groups_of, refine_rows}
 use Rattle.table.specs.Columns.{l_of, r_of}
 use Rattle.promises.specs.Theorems.{IsEntry, OtherIn, subgroup_in}

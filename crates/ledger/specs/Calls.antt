@@ -4,7 +4,7 @@ use Rattle.rules.specs.Answers.{Answer, answer, refused, then, or_else}
 use Rattle.request.specs.Request.{Request}
 use Rattle.table.specs.Columns.{Columns, Table, afterwards}
 use Rattle.fresh.specs.Fresh.{fresh_rows}
-use Rattle.order.specs.Order.{Order}
+use Rattle.order.specs.declared.Ordered.{Ordered}
 use Rattle.order.specs.Order as table
 use Rattle.refine.specs.Refine.{answer_to, table_after}
 use Rattle.ledger.specs.Ledger.{Ledger, accepted_by, ledger_refined, ledger_order}
@@ -17,7 +17,7 @@ pub data Call : Type 0 where
 -- each call's answer: the new count, the order or the refusal number
 pub data Reply : Type 0 where
   refine_says : Answer ℕ → Reply
-  order_says : Answer Order → Reply
+  order_says : Answer Ordered → Reply
 
 -- The ledger's side. The answer is the number of ids; a refused call changes nothing; order changes nothing
 unfoldable pub ledger_reply : Ledger → Call → Reply

@@ -4,7 +4,8 @@ use Rattle.std.specs.Prelude.{ℕ, ◌≤◌, ◌≡◌, true, false, List, ◌+
 use Rattle.rules.specs.Answers.{answer}
 use Rattle.rules.specs.Limits.{greatest}
 use Rattle.request.specs.Entries.{has, Same}
-use Rattle.table.specs.Columns.{Row, Columns, counted}
+use Rattle.table.specs.declared.Row.{Row}
+use Rattle.table.specs.Columns.{Columns, counted}
 use Rattle.fresh.specs.Fresh.{fresh_rows}
 use Rattle.order.specs.Order as table
 use Rattle.refine.specs.Refine.{groups_of}

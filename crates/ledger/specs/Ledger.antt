@@ -7,7 +7,8 @@ use Rattle.request.specs.Forest.{tree_order}
 use Rattle.request.specs.Request.{Request, entries, left_of, right_of}
 use Rattle.request.specs.Reading.{request_of}
 use Rattle.request.specs.Acceptance.{accepted}
-use Rattle.order.specs.Order.{Order, order_by}
+use Rattle.order.specs.declared.Ordered.{Ordered}
+use Rattle.order.specs.Order.{order_by}
 
 -- State: column length, ids with quotas, an order on the ids, sequences L and R
 pub record Ledger : Type 0 where
@@ -80,7 +81,7 @@ unfoldable pub ledger_refined : Ledger → List ℕ → Answer Ledger
 ledger_refined g bytes = then (accepted_by g bytes) λ q. answer (exploded_ledger q g)
 
 -- Order gives 20 for an id not in the state, else same for one id named twice, else what the order on the ids says, incomparable where neither is ≤ the other
-unfoldable pub ledger_order : Ledger → ℕ → ℕ → Answer Order
+unfoldable pub ledger_order : Ledger → ℕ → ℕ → Answer Ordered
 ledger_order g a b =
     cond (not (has a g.groups) || not (has b g.groups)) (refused 20) (answer (order_by (eqb a b) (g.order a b) (g.order b a)))
 
