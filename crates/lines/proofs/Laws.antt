@@ -4,12 +4,14 @@ use mathlib.Core.Bool.{Bool, true, false, cond}
 use mathlib.Core.List.{List, [], ◌∷◌, ◌++◌}
 use Prim.Native.Nat.{ℕ, ◌+◌, ◌*◌, ◌≤◌}
 use native.Mathlib.Omega.{arith}
-use lib.ListN.{length, set, length-append}
+use lib.ListN.{length, length-append}
 use Rattle.rules.specs.Answers.{Answer, answer, refused, then}
 use Rattle.rules.specs.Buffers.{written, after}
 use Rattle.rules.proofs.Answers.{same_answer, never_refused, then_cond}
 use Rattle.rules.proofs.Bools.{or_none}
-use Rattle.rules.proofs.Buffers.{after_all, after_same, after_then}
+use Rattle.writer.specs.Writing.{Wrote, WroteAll}
+use Rattle.writer.specs.declared.Writer.{Writer}
+use Rattle.writer.proofs.Writing.{wrote_all, wrote_both, wrote_then}
 use Rattle.rules.proofs.Pieces.{flat_most, length_four}
 use Rattle.text.specs.Decimal.{decimal}
 use Rattle.text.proofs.Laws.{decimal_count}
@@ -33,13 +35,10 @@ pub field_most : (n last : ℕ) → length (field_text n last) ≤ 11
 field_most n last = omega (arith, field_count n last, decimal_count n)
 
 -- the digits, and then one byte
-pub field_written : (buffer : List ℕ) (at n last : ℕ) {first : List ℕ} {p : ℕ} → at + length (field_text n last) ≤ length buffer
-    → first ≡ after buffer at (decimal n) → p ≡ at + length (decimal n) → set first p last ≡ after buffer at (field_text n last)
+pub field_written : {a b c : Writer} (n last : ℕ) → Wrote a b (decimal n) → Wrote b c (last ∷ []) → a.at + length (field_text n last) ≤ length a.buffer.now
+    → WroteAll a c (field_text n last)
 unfolding field_text
-field_written buffer at n last {first} {p} h e k =
-    let c = field_count n last in
-    let s = ap length e ∙ after_same buffer at (decimal n) (omega arith) in
-    after_then buffer at (decimal n) (last ∷ []) (omega arith) e k (sym (after_all first p (last ∷ []) (omega arith)))
+field_written n last w v h = wrote_then w (wrote_all v) h
 
 -- ## A line
 
@@ -126,8 +125,22 @@ module _ (c : Columns) (count : ℕ) (buffer : List ℕ) (at : ℕ) where
       go false e = ap (λ t. after buffer at (table_text t)) (same_answer e)
 
 -- the heading, and then the rows
-pub table_written : (buffer : List ℕ) (at : ℕ) (t : List Row) {first second : List ℕ} {p : ℕ} → at + (16 + length (rows_text t)) ≤ length buffer
-    → first ≡ after buffer at heading_text → p ≡ at + 16 → second ≡ after first p (rows_text t) → second ≡ after buffer at (table_text t)
+pub table_written : {a b c : Writer} (t : List Row) → Wrote a b heading_text → WroteAll b c (rows_text t) → a.at + length (table_text t) ≤ length a.buffer.now → WroteAll a c (table_text t)
 unfolding table_text
-table_written buffer at t h f k g =
-    let n = heading_count in after_then buffer at heading_text (rows_text t) (omega arith) f (omega arith) g
+table_written t w v h = wrote_then w (λ _. v) h
+
+-- four fields, one after another
+pub row_written : {a b c d e : Writer} (w : Row) → WroteAll a b (field_text w.id 32) → WroteAll b c (field_text w.l 32) → WroteAll c d (field_text w.r 32)
+    → WroteAll d e (field_text w.q 10) → a.at + length (row_text w) ≤ length a.buffer.now → WroteAll a e (row_text w)
+unfolding row_text
+row_written {a} {b} {c} {d} {e} w f g h k fits =
+    let n = length-append (field_text w.id 32) (field_text w.l 32 ++ (field_text w.r 32 ++ field_text w.q 10)) in
+    let m = length-append (field_text w.l 32) (field_text w.r 32 ++ field_text w.q 10) in
+    let o = length-append (field_text w.r 32) (field_text w.q 10) in
+    let p = f.place in
+    let q = g.place in
+    let r = h.place in
+    let i = f.same_length in
+    let j = g.same_length in
+    let l = h.same_length in
+    wrote_both f (wrote_both g (wrote_both h k (omega arith)) (omega arith)) (omega arith)

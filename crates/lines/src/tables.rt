@@ -1,15 +1,16 @@
 // The table as text: a heading, and a line for each row.
 ghost use Rattle.std.specs.Prelude.{◌≡◌, ◌+◌, ◌≤◌, length};
-ghost use Rattle.rules.specs.Buffers.{written, after};
+ghost use Rattle.rules.specs.Buffers.{written};
 ghost use Rattle.rules.specs.Says.{says};
+ghost use Rattle.writer.specs.Writing.{Wrote, WroteAll};
 ghost use Rattle.table.specs.Columns.{columns};
 ghost use Rattle.table.specs.InUse.{rows_of};
 ghost use Rattle.lines.specs.Lines.{row_text, rows_text, table_text, table_answer, table_buffer};
 
-use crate::fields::{LINE_FEED, SPACE, field_length, put_bytes, write_field};
+use crate::fields::{LINE_FEED, SPACE, field_length, write_field};
 use rules::Refusal;
 use table::{Row, RowsInUse};
-use text::too_short;
+use writer::Writer;
 
 // How many bytes a row has, 8 to 44.
 #[tactic(auto, using(text::proofs::Laws::decimal_count, crate::proofs::Laws::row_count, crate::proofs::Laws::field_count))]
@@ -30,59 +31,56 @@ fn rows_length(rows: RowsInUse<'_>) -> usize
     sum
 }
 
-// Writes a row, for which there is room, as id, l, r, quota, and answers the position after it.
+// Writes a row, for which there is room, as id, l, r, quota.
 #[tactic(auto, using(crate::proofs::Laws::row_count))]
-fn write_row(buffer: &mut [u8], at: usize, row: Row) -> usize
-    requires { at + length (row_text row) ≤ length buffer.old }
-    ensures value { result ≡ at + length (row_text row) }
-    ensures buffer_value { buffer.new ≡ after buffer.old at (row_text row) }
+fn write_row(writer: &mut Writer<'_>, row: Row)
+    requires { writer.old.at + length (row_text row) ≤ length writer.old.buffer.now }
+    ensures { WroteAll writer.old writer.new (row_text row) }
 {
-    let l_at = write_field(&mut *buffer, at, row.id, SPACE);
-    let r_at = write_field(&mut *buffer, l_at, row.l, SPACE);
-    let q_at = write_field(&mut *buffer, r_at, row.r, SPACE);
-    write_field(buffer, q_at, row.q, LINE_FEED)
+    write_field(&mut *writer, row.id, SPACE);
+    write_field(&mut *writer, row.l, SPACE);
+    write_field(&mut *writer, row.r, SPACE);
+    write_field(&mut *writer, row.q, LINE_FEED);
 }
 
 // Writes the rows, for which there is room.
-fn write_rows(buffer: &mut [u8], at: usize, rows: RowsInUse<'_>)
-    requires { at + length (rows_text (rows_of rows)) ≤ length buffer.old }
-    ensures { buffer.new ≡ after buffer.old at (rows_text (rows_of rows.entry)) }
+fn write_rows(writer: &mut Writer<'_>, rows: RowsInUse<'_>)
+    requires { writer.old.at + length (rows_text (rows_of rows)) ≤ length writer.old.buffer.now }
+    ensures { WroteAll writer.old writer.new (rows_text (rows_of rows.entry)) }
 {
-    let mut p = at;
     for row in rows {
-        p = write_row(&mut *buffer, p, row);
+        write_row(&mut *writer, row);
     }
 }
 
-// Writes the heading and the rows from a position on: 30, and none of it, where the buffer is too short.
-fn write_whole(buffer: &mut [u8], at: usize, rows: RowsInUse<'_>) -> Result<usize, Refusal>
-    ensures result_value { says result ≡ written buffer.old at (table_text (rows_of rows.entry)) }
-    ensures buffer_value { buffer.new ≡ after buffer.old at (table_text (rows_of rows.entry)) }
+// Writes the heading and the rows: 30, and none of it, where the buffer is too short.
+fn write_whole(writer: &mut Writer<'_>, rows: RowsInUse<'_>) -> Result<usize, Refusal>
+    ensures result_value { says result ≡ written writer.old.buffer.now writer.old.at (table_text (rows_of rows.entry)) }
+    ensures wrote { Wrote writer.old writer.new (table_text (rows_of rows.entry)) }
 {
     let heading = b"group l r quota\n";
     let whole = heading.len() + rows_length(rows);
-    if too_short(buffer.len(), at, whole) {
+    if writer.too_short(whole) {
         return Err(Refusal::BufferShort);
     }
-    let first = put_bytes(&mut *buffer, at, heading);
-    write_rows(buffer, first, rows);
+    let _ = writer.bytes(heading);
+    write_rows(writer, rows);
     Ok(whole)
 }
 
-// Writes the heading and each row from a position on: 10 where the columns don't hold the count, then 30, and none of it, where the
-// buffer is too short.
+// Writes the heading and each row: 10 where the columns don't hold the count, then 30, and none of it, where the buffer is too short.
 pub fn write_table(
-    buffer: &mut [u8],
-    at: usize,
+    writer: &mut Writer<'_>,
     id: &[u32],
     l: &[u32],
     r: &[u32],
     q: &[u32],
     count: usize,
 ) -> Result<usize, Refusal>
-    ensures result_value { says result ≡ table_answer (columns id.now l.now r.now q.now) count buffer.old at }
-    ensures buffer_value { buffer.new ≡ table_buffer (columns id.now l.now r.now q.now) count buffer.old at }
+    ensures result_value { says result ≡ table_answer (columns id.now l.now r.now q.now) count writer.old.buffer.now writer.old.at }
+    ensures buffer_value { writer.new.buffer.now ≡ table_buffer (columns id.now l.now r.now q.now) count writer.old.buffer.now writer.old.at }
+    ensures same_reference { writer.new.buffer.ghost_name ≡ writer.old.buffer.ghost_name }
 {
     let rows = RowsInUse::of(id, l, r, q, count)?;
-    write_whole(buffer, at, rows)
+    write_whole(writer, rows)
 }

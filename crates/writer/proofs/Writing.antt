@@ -105,3 +105,18 @@ module _ (w : Writer) (byte : ℕ) where
   one_byte new h e p g =
       let s : ltb (length w.buffer.now) (w.at + 1) ≡ false = le-ltb _ _ (omega arith) in
       (room_answer w.buffer.now w.at (byte ∷ []) s, all_written w new (byte ∷ []) s (e ∙ sym (after_all w.buffer.now w.at (byte ∷ []) (omega arith))) p g)
+
+-- ## A writer that tests the room for all that it writes, and then writes it in parts
+
+module _ (w : Writer) (bytes : List ℕ) {whole : ℕ} (n : whole ≡ length bytes) where
+  pub whole_fits : ltb (length w.buffer.now) (w.at + whole) ≡ false → w.at + length bytes ≤ length w.buffer.now
+  whole_fits h = omega (arith, ltb-false _ _ h)
+
+  pub whole_short : ltb (length w.buffer.now) (w.at + whole) ≡ true → (refused 30 ≡ written w.buffer.now w.at bytes) × Wrote w w bytes
+  whole_short h =
+      let k : ltb (length w.buffer.now) (w.at + length bytes) ≡ true = rw (← n) h in
+      (no_room_answer w.buffer.now w.at bytes k, none_written w bytes k)
+
+  pub whole_wrote : {new : Writer} → ltb (length w.buffer.now) (w.at + whole) ≡ false → WroteAll w new bytes
+      → (answer whole ≡ written w.buffer.now w.at bytes) × Wrote w new bytes
+  whole_wrote h v = (ap answer n ∙ sym (written_all w.buffer.now w.at bytes (whole_fits h)), wrote_of v (whole_fits h))

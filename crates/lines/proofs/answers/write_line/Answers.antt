@@ -1,7 +1,6 @@
 -- `lines::answers::write_line`: a line for each case.
 use mathlib.Core.Path.{ap, sym, ◌∙◌}
 use mathlib.Core.List.{[], ◌∷◌, ◌++◌}
-use Rattle.rules.specs.Buffers.{written, after}
 use Rattle.rules.specs.Says.{says}
 use Rattle.lines.specs.Lines.{field_text, line_text}
 use Rattle.lines.proofs.Laws.{ok_line, no_line}
@@ -11,16 +10,10 @@ pub returns-in-Ok : goal.returns-in-Ok
 returns-in-Ok c =
     let e = c.write_word.ensures in
     let f = ok_line _ ∙ ap line_text (sym (ap says c.in-Ok.is)) in
-    record {
-      result_value = e.result_value ∙ ap (written c.args.buffer.now c.args.at) f;
-      buffer_value = e.buffer_value ∙ ap (after c.args.buffer.now c.args.at) f;
-    }
+    record { result_value = rw f at e.result_value; wrote = rw f at e.wrote }
 
 pub returns-in-Err : goal.returns-in-Err
 returns-in-Err c =
     let e = c.write_word-in-Err.ensures in
     let f = ap (λ n. (110 ∷ 111 ∷ 32 ∷ []) ++ field_text n 10) c.number.ensures ∙ no_line _ ∙ ap line_text (sym (ap says c.in-Err.is)) in
-    record {
-      result_value = e.result_value ∙ ap (written c.args.buffer.now c.args.at) f;
-      buffer_value = e.buffer_value ∙ ap (after c.args.buffer.now c.args.at) f;
-    }
+    record { result_value = rw f at e.result_value; wrote = rw f at e.wrote }

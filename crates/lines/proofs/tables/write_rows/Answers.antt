@@ -1,19 +1,28 @@
-use Rattle.std.proofs.Common.{ap}
-use Rattle.table.proofs.RowBytes.{rest_all, rest_room, rest_next, rest_none}
+use Rattle.std.proofs.Common.{length, refl, ap, ◌∙◌, arith}
 use Rattle.lines.specs.Lines.{row_text, rows_text}
+use Rattle.table.proofs.RowBytes.{rest_all, rest_room, rest_next, rest_none, next_length, no_bytes}
+use Rattle.writer.proofs.Writing.{wrote_room}
 use Rattle.lines.proofs.tables.write_rows.Goals as goal
 
 pub loop-row-init : goal.loop-row-init
-loop-row-init c = rest_all row_text _ (ap rows_text c.into_iter-row-iterator.ensures.into_iter_gives) c.requires
+loop-row-init c =
+    let e = ap rows_text c.into_iter-row-iterator.ensures.into_iter_gives in
+    record { rest = rest_all row_text _ e c.requires; place = omega (arith, ap length e); same_reference = refl }
 
-pub write_row-p-requires : goal.write_row-p-requires
-write_row-p-requires c = rest_room row_text c.loop-row.invariant c.in-Some.ensures.steps
+pub write_row-requires : goal.write_row-requires
+write_row-requires c = rest_room row_text c.loop-row.invariant.rest c.in-Some.ensures.steps
 
 pub loop-row-preserved : goal.loop-row-preserved
-loop-row-preserved c = rest_next row_text c.loop-row.invariant c.in-Some.ensures.steps c.write_row-p.ensures.value c.write_row-p.ensures.buffer_value
-
-pub shape_of-buffer : goal.shape_of-buffer
-shape_of-buffer c = c.loop-row.invariant.same
+loop-row-preserved c =
+    let i = c.loop-row.invariant in
+    let w = c.write_row.ensures in
+    record {
+      rest = rest_next row_text i.rest c.in-Some.ensures.steps w.place w.buffer;
+      place = omega (arith, next_length row_text c.in-Some.ensures.steps);
+      same_reference = w.same_reference ∙ i.same_reference;
+    }
 
 pub returns : goal.returns
-returns c = rest_none row_text c.loop-row.invariant c.in-None.ensures.steps.0
+returns c =
+    let i = c.loop-row.invariant in
+    wrote_room c.requires (rest_none row_text i.rest c.in-None.ensures.steps.0) (omega (arith, ap length (no_bytes row_text c.in-None.ensures.steps.0))) i.same_reference

@@ -1,8 +1,6 @@
 -- `lines::tables::write_whole`: the length, the heading, and then the rows.
-use Rattle.std.proofs.Common.{◌+◌, length, ap, sym, ◌∙◌, arith, ltb-true, ltb-false}
-use Rattle.rules.specs.Answers.{answer}
-use Rattle.rules.specs.Buffers.{after}
-use Rattle.rules.proofs.Buffers.{written_all, kept}
+use Rattle.std.proofs.Common.{◌≡◌, ◌+◌, length, sym, ◌∙◌, arith}
+use Rattle.writer.proofs.Writing.{wrote_all, whole_fits, whole_short, whole_wrote}
 use Rattle.table.specs.InUse.{rows_of}
 use Rattle.lines.specs.Lines.{table_text}
 use Rattle.lines.proofs.Laws.{text_most, table_count, heading_is, table_written}
@@ -14,27 +12,24 @@ overflow_add-whole c = omega (arith, text_most c.args.rows)
 pub returns-then-too_short : goal.returns-then-too_short
 returns-then-too_short c =
     let a = c.args in
-    let r = ltb-true (length a.buffer.now) (a.at + (16 + c.rows_length-whole.result)) (sym c.if-too_short.ensures) in
-    let p = kept a.buffer.now a.at (table_text (rows_of a.rows)) (omega (arith, table_count (rows_of a.rows))) in
-    record { result_value = p.0; buffer_value = p.1 }
-
-pub put_bytes-first-requires : goal.put_bytes-first-requires
-put_bytes-first-requires c =
-    let r = ltb-false (length c.args.buffer.now) (c.args.at + (16 + c.rows_length-whole.result)) (sym c.if-too_short.ensures) in
-    omega arith
+    let n : 16 + c.rows_length-whole.result ≡ length (table_text (rows_of a.rows)) = omega (arith, table_count (rows_of a.rows)) in
+    let p = whole_short a.writer.now (table_text (rows_of a.rows)) n (sym c.too_short.ensures ∙ c.if-too_short.true) in
+    record { result_value = p.0; wrote = p.1 }
 
 pub write_rows-requires : goal.write_rows-requires
 write_rows-requires c =
-    let r = ltb-false (length c.args.buffer.now) (c.args.at + (16 + c.rows_length-whole.result)) (sym c.if-too_short.ensures) in
-    omega arith
+    let a = c.args in
+    let k = table_count (rows_of a.rows) in
+    let n : 16 + c.rows_length-whole.result ≡ length (table_text (rows_of a.rows)) = omega arith in
+    let r = whole_fits a.writer.now (table_text (rows_of a.rows)) n (sym c.too_short.ensures ∙ c.if-too_short.false) in
+    let w = wrote_all c.bytes.ensures.wrote (omega arith) in
+    omega (arith, w.place, w.same_length)
 
 pub returns : goal.returns
 returns c =
     let a = c.args in
-    let r = ltb-false (length a.buffer.now) (a.at + (16 + c.rows_length-whole.result)) (sym c.if-too_short.ensures) in
-    let n = table_count (rows_of a.rows) in
-    let h = c.put_bytes-first.ensures.buffer_value ∙ ap (after a.buffer.now a.at) heading_is in
-    record {
-      result_value = ap answer (omega arith) ∙ sym (written_all a.buffer.now a.at (table_text (rows_of a.rows)) (omega arith));
-      buffer_value = table_written a.buffer.now a.at (rows_of a.rows) (omega arith) h (omega arith) c.write_rows.ensures;
-    }
+    let n : 16 + c.rows_length-whole.result ≡ length (table_text (rows_of a.rows)) = omega (arith, table_count (rows_of a.rows)) in
+    let t = sym c.too_short.ensures ∙ c.if-too_short.false in
+    let h = rw heading_is at c.bytes.ensures.wrote in
+    let p = whole_wrote a.writer.now (table_text (rows_of a.rows)) n t (table_written (rows_of a.rows) h c.write_rows.ensures (whole_fits a.writer.now (table_text (rows_of a.rows)) n t)) in
+    record { result_value = p.0; wrote = p.1 }
