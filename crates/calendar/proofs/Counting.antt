@@ -8,7 +8,8 @@ use native.Mathlib.Omega.{arith}
 use lib.Dec.{eqb}
 use borrow.Author.Tests.{lt-ltb, le-ltb}
 use Rattle.rules.proofs.Cases.{by_lt}
-use Rattle.calendar.specs.Calendar.{Date, date, leap, short_month, month_days, tomorrow, date_after}
+use Rattle.calendar.specs.declared.Date.{Date}
+use Rattle.calendar.specs.Calendar.{date, leap, short_month, month_days, tomorrow, date_after}
 use Rattle.calendar.specs.Inside.Years.{year_days, years_days, months_days}
 use Rattle.calendar.specs.Promise.{InCalendar}
 

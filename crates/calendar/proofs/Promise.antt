@@ -4,7 +4,8 @@ use mathlib.Core.Bool.{true, false}
 use mathlib.Core.List.{[], ◌∷◌, map}
 use Prim.Native.Nat.{ℕ, suc, ◌+◌, ◌-◌, ◌≤◌}
 use native.Mathlib.Omega.{arith}
-use Rattle.calendar.specs.Calendar.{Date, date, leap, month_days, tomorrow, date_after, date_of, last_dated}
+use Rattle.calendar.specs.declared.Date.{Date}
+use Rattle.calendar.specs.Calendar.{date, leap, month_days, tomorrow, date_after, date_of, last_dated}
 use Rattle.calendar.specs.Inside.Years.{year_days, years_days, months_days}
 use Rattle.calendar.specs.Promise.{InCalendar, twelve, Calendar}
 use Rattle.calendar.proofs.Counting.{counted, days_after, stands}

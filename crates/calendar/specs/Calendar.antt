@@ -1,10 +1,6 @@
 -- The calendar (RULES.md, 18.1): leap years, months, and a day's date by counting from 2000-01-01.
 use Rattle.std.specs.Prelude.{ℕ, zero, suc, ◌+◌, ◌-◌, ◌%◌, Bool, cond, not, ◌&&◌, ◌||◌, eqb, ltb}
-
-pub record Date : Type 0 where
-  pub year : ℕ
-  pub month : ℕ
-  pub day : ℕ
+use Rattle.calendar.specs.declared.Date.{Date}
 
 abbrev pub date : (year month day : ℕ) → Date
 date year month day = record { year = year; month = month; day = day }

@@ -1,6 +1,7 @@
 -- What the calendar promises of the dates of days.
 use Rattle.std.specs.Prelude.{◌≡◌, true, false, List, [], ◌∷◌, map, ℕ, ◌+◌, ◌≤◌}
-use Rattle.calendar.specs.Calendar.{Date, date, leap, month_days, tomorrow, date_of, last_dated}
+use Rattle.calendar.specs.declared.Date.{Date}
+use Rattle.calendar.specs.Calendar.{date, leap, month_days, tomorrow, date_of, last_dated}
 
 -- a date of the calendar from 2000-01-01 on
 pub record InCalendar (t : Date) : Type 0 where

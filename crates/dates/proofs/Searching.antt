@@ -3,7 +3,6 @@ use mathlib.Core.Path.{◌≡◌, ap, sym, ◌∙◌}
 use mathlib.Core.Bool.{Bool}
 use Prim.Native.Nat.{ℕ, zero, suc, ◌+◌, ◌*◌, ◌-◌, ◌/◌, ◌<◌, ◌≤◌}
 use native.Mathlib.Omega.{arith}
-use Rattle.rules.proofs.Cases.{by_lt}
 use Rattle.calendar.specs.Calendar.{date, leap, month_days, date_after, date_of, last_dated}
 use Rattle.calendar.specs.Inside.Years.{year_days, years_days, first_day, months_days}
 use Rattle.calendar.proofs.Counting.{year_most, year_least, month_some, months_year, months_more, counted, days_after, stands}
@@ -31,40 +30,38 @@ in_last {k} {day} h from to begun =
 -- ## The month
 
 -- a month of a year, where so many days are left of those after the year's first
-pub record InMonth (l : Bool) (after left month days : ℕ) : Type 0 where
+pub record InMonth (l : Bool) (after left month : ℕ) : Type 0 where
   pub from : 1 ≤ month
   pub to : month ≤ 12
-  pub long : days ≡ month_days l month
   pub sum : months_days l (month - 1) + left ≡ after
 
 module _ (l : Bool) (after : ℕ) where
-  pub january : {days : ℕ} → days ≡ month_days l 1 → InMonth l after after 1 days
+  pub january : InMonth l after after 1
   unfolding months_days
-  january e = record { from = omega arith; to = omega arith; long = e; sum = omega arith }
+  january = record { from = omega arith; to = omega arith; sum = omega arith }
 
-  -- the next month begins within the year
-  pub next : {left month days more : ℕ} → after < year_days l → InMonth l after left month days → days ≤ left → more ≡ month_days l (month + 1)
-      → InMonth l after (left - days) (month + 1) more
-  next {left} {month} {days} {more} h i d e =
+  -- the next month
+  pub next : {left month days : ℕ} → InMonth l after left month → month < 12 → days ≡ month_days l month → days ≤ left → InMonth l after (left - days) (month + 1)
+  next {left} {month} {days} i k e d =
       let s = months_more l month i.from in
       let n : month + 1 - 1 ≡ month = omega arith in
-      let sums : months_days l month + (left - days) ≡ after = omega (arith, i.sum, i.long) in
-      let within : month < 12 = by_lt month 12 (λ k. k) (λ k.
-      let e : month ≡ 12 = omega (arith, i.to) in
-      absurd (omega (arith, sums, ap (months_days l) e ∙ months_year l))) in
-      record { from = omega arith; to = omega arith; long = e; sum = rw n sums }
+      let sums : months_days l month + (left - days) ≡ after = omega (arith, i.sum, e) in
+      record { from = omega arith; to = omega arith; sum = rw n sums }
 
-  pub less : {left month days : ℕ} → InMonth l after left month days → days ≤ left → left - days < left
-  less {left} {month} i d = omega (arith, i.long, month_some l month)
+  -- December has the days that are left of the year
+  pub december : {left month : ℕ} → after < year_days l → InMonth l after left month → month ≡ 12 → left < month_days l month
+  december {left} {month} h i e =
+      let s = months_more l month i.from in
+      omega (arith, i.sum, ap (months_days l) e ∙ months_year l)
 
 -- the date that is found
-pub found : (k : ℕ) {after left month days : ℕ} → InMonth (leap (2000 + k)) after left month days → left < days
+pub found : (k : ℕ) {after left month : ℕ} → InMonth (leap (2000 + k)) after left month → left < month_days (leap (2000 + k)) month
     → date (2000 + k) month (left + 1) ≡ date_after (years_days k + after)
 found k {after} {left} {month} i h =
     let l = leap (2000 + k) in
     let m : month - 1 + 1 ≡ month = omega (arith, i.from) in
     let n : years_days k + months_days l (month - 1) + left ≡ years_days k + after = omega (arith, i.sum) in
-    sym (ap date_after (sym n) ∙ counted k (month - 1) left (omega (arith, i.from, i.to)) (rw m (omega (arith, i.long))) ∙ ap (λ (j : ℕ). date (2000 + k) j (left + 1)) m)
+    sym (ap date_after (sym n) ∙ counted k (month - 1) left (omega (arith, i.from, i.to)) (rw m h) ∙ ap (λ (j : ℕ). date (2000 + k) j (left + 1)) m)
 
 -- a day and its year: so many days after the year's first
 pub year_date : (k day : ℕ) → InYear k day → date_after (years_days k + (day - first_day k)) ≡ date_of day

@@ -3,7 +3,8 @@ use Rattle.std.specs.Prelude.{ℕ, ◌+◌, ◌/◌, ◌%◌, cond, List, [], �
 use Rattle.rules.specs.Answers.{Answer, refused}
 use Rattle.rules.specs.Buffers.{written, after}
 use Rattle.text.specs.Letters.{letters}
-use Rattle.calendar.specs.Calendar.{Date, date_of, last_dated}
+use Rattle.calendar.specs.declared.Date.{Date}
+use Rattle.calendar.specs.Calendar.{date_of, last_dated}
 
 -- a number below 100 in two digits
 unfoldable pub two : ℕ → List ℕ
@@ -12,6 +13,10 @@ two n = (n / 10 + 48) ∷ (n % 10 + 48) ∷ []
 -- the year in four digits, month and day in two
 unfoldable pub date_text : Date → List ℕ
 date_text t = two (t.year / 100) ++ ((two (t.year % 100) ++ letters "-") ++ ((two t.month ++ letters "-") ++ two t.day))
+
+-- what is written of a day: its date; nothing where the day is above 36525
+unfoldable pub dated_text : ℕ → List ℕ
+dated_text day = cond (ltb last_dated day) [] (date_text (date_of day))
 
 -- the writer of a day's date: 31 where the day is above 36525, then 30; refused, nothing is written
 unfoldable pub date_answer : List ℕ → (at day : ℕ) → Answer ℕ

@@ -1,22 +1,31 @@
-// Numbers of two digits.
-ghost use Rattle.std.specs.Prelude.{◌≡◌, ◌∷◌, [], ◌++◌, ◌+◌, ◌<◌, ◌≤◌, length};
-ghost use Rattle.rules.specs.Buffers.{after};
-ghost use Rattle.dates.specs.Dates.{two};
+// A date's digits.
+ghost use Rattle.std.specs.Prelude.{◌≡◌, ◌<◌};
+ghost use Rattle.dates.specs.Dates.{two, date_text};
+ghost use Rattle.dates.specs.Inside.Found.{Writable};
 
-// Writes a number below 100 in two digits.
-pub(crate) fn write_two(buffer: &mut [u8], at: usize, n: u32)
-    requires { (n < 100) × (at + 2 ≤ length buffer.old) }
-    ensures { buffer.new ≡ after buffer.old at (two n) }
+use calendar::Date;
+
+// How many bytes a date has.
+const DATE: usize = 10;
+
+// A number below 100 in two digits.
+#[tactic(auto, unfolding(crate::specs::Dates::two))]
+fn two(n: u32) -> [u8; 2]
+    requires { n < 100 }
+    ensures { result ≡ two n }
 {
-    buffer[at] = (n / 10 + 48) as u8;
-    buffer[at + 1] = (n % 10 + 48) as u8;
+    [(n / 10 + 48) as u8, (n % 10 + 48) as u8]
 }
 
-// The same, and a dash after it.
-pub(crate) fn write_two_dash(buffer: &mut [u8], at: usize, n: u32)
-    requires { (n < 100) × (at + 3 ≤ length buffer.old) }
-    ensures { buffer.new ≡ after buffer.old at (two n ++ (45 ∷ [])) }
+// A date as year-month-day.
+#[tactic(auto, unfolding(crate::specs::Dates::date_text))]
+pub(crate) fn date_text(t: Date) -> [u8; DATE]
+    requires { Writable t }
+    ensures { result ≡ date_text t }
 {
-    write_two(&mut *buffer, at, n);
-    buffer[at + 2] = b'-';
+    let [a, b] = two(t.year / 100);
+    let [c, d] = two(t.year % 100);
+    let [m, n] = two(t.month);
+    let [x, y] = two(t.day);
+    [a, b, c, d, b'-', m, n, b'-', x, y]
 }

@@ -2,19 +2,13 @@
 ghost use Rattle.std.specs.Prelude.{◌≡◌, ◌+◌, ◌<◌, ◌≤◌};
 ghost use Rattle.calendar.specs.Calendar.{leap, month_days, date_after, date_of, last_dated};
 ghost use Rattle.calendar.specs.Inside.Years.{year_days, years_days};
-ghost use Rattle.dates.specs.Inside.Found.{InYear, date_says};
+ghost use Rattle.dates.specs.Inside.Found.{InYear};
 
 use crate::years::{YEARS, first_day};
-
-// A date of the calendar.
-#[derive(Clone, Copy)]
-pub(crate) struct Date {
-    pub year: u32,
-    pub month: u32,
-    pub day: u32,
-}
+use calendar::Date;
 
 // A leap year is divisible by 4, and not by 100 unless by 400.
+#[tactic(auto, unfolding(calendar::specs::Calendar::leap))]
 fn leap(year: u32) -> bool
     ensures { result ≡ leap year }
 {
@@ -22,16 +16,13 @@ fn leap(year: u32) -> bool
 }
 
 // How many days a month has.
+#[tactic(auto, unfolding(calendar::specs::Calendar::month_days))]
 fn month_days(leap: bool, month: u32) -> u32
     ensures { result ≡ month_days leap month }
 {
     match month {
-        2 => {
-            if leap {
-                return 29;
-            }
-            28
-        }
+        2 if leap => 29,
+        2 => 28,
         4 | 6 | 9 | 11 => 30,
         _ => 31,
     }
@@ -42,34 +33,37 @@ fn year_of(day: u32) -> usize
     requires { (1 ≤ day) × (day ≤ last_dated) }
     ensures { InYear result day }
 {
-    let mut k = ((day - 1) / 366) as usize;
-    while k + 1 < YEARS {
+    let from = ((day - 1) / 366) as usize;
+    for k in from..YEARS - 1 {
         if day < first_day(k + 1) {
             return k;
         }
-        k += 1;
     }
-    k
+    YEARS - 1
 }
 
 // The date so many days after the first of the year that comes k years after 2000.
 fn date_in(k: u32, after: u32) -> Date
     requires { (k < 100) × (after < year_days (leap (2000 + k))) }
-    ensures { date_says result ≡ date_after (years_days k + after) }
+    ensures { result ≡ date_after (years_days k + after) }
 {
     let year = 2000 + k;
     let leap = leap(year);
     let mut left = after;
-    let mut month = 1;
-    let mut days = month_days(leap, month);
-    while days <= left {
+    for month in 1..12 {
+        let days = month_days(leap, month);
+        if left < days {
+            return Date {
+                year,
+                month,
+                day: left + 1,
+            };
+        }
         left -= days;
-        month += 1;
-        days = month_days(leap, month);
     }
     Date {
         year,
-        month,
+        month: 12,
         day: left + 1,
     }
 }
@@ -77,7 +71,7 @@ fn date_in(k: u32, after: u32) -> Date
 // The date of a day. There is no day 0: it is taken as day 1.
 pub(crate) fn date_of(day: u32) -> Date
     requires { day ≤ last_dated }
-    ensures { date_says result ≡ date_of day }
+    ensures { result ≡ date_of day }
 {
     if day == 0 {
         return date_in(0, 0);

@@ -5,45 +5,26 @@ mod digits;
 mod finding;
 mod years;
 
-ghost use Rattle.std.specs.Prelude.{◌≡◌, ◌+◌, ◌≤◌, length};
-ghost use Rattle.number.specs.Says.{written_says};
-ghost use Rattle.rules.specs.Buffers.{after};
-ghost use Rattle.dates.specs.Dates.{date_text, date_answer, date_buffer};
-ghost use Rattle.dates.specs.Inside.Found.{Writable, date_says};
+ghost use Rattle.std.specs.Prelude.{◌≡◌};
+ghost use Rattle.rules.specs.Says.{says};
+ghost use Rattle.writer.specs.Writing.{Wrote};
+ghost use Rattle.dates.specs.Dates.{dated_text, date_answer, date_buffer};
 
-use digits::{write_two, write_two_dash};
-use finding::{Date, date_of};
-use number::Written;
+use digits::date_text;
+use finding::date_of;
 use rules::Refusal;
-use text::too_short;
+use writer::Writer;
 pub use years::LAST_DATED;
 
-// How many bytes a date has.
-const DATE: usize = 10;
-
-// Writes a date as year-month-day.
-fn write_parts(buffer: &mut [u8], at: usize, t: Date)
-    requires { (Writable (date_says t)) × (at + 10 ≤ length buffer.old) }
-    ensures { buffer.new ≡ after buffer.old at (date_text (date_says t)) }
-{
-    let year = t.year;
-    write_two(&mut *buffer, at, year / 100);
-    write_two_dash(&mut *buffer, at + 2, year % 100);
-    write_two_dash(&mut *buffer, at + 5, t.month);
-    write_two(&mut *buffer, at + 8, t.day);
-}
-
-// Writes the date of a day from a position on: 31 where the day is above 36525, then 30; refused, none of it is written.
-pub fn write_date(buffer: &mut [u8], at: usize, day: u32) -> Written
-    ensures result_value { written_says result ≡ date_answer buffer.old at day }
-    ensures buffer_value { buffer.new ≡ date_buffer buffer.old at day }
+// Writes the date of a day, and moves on past it: 31 where the day is above 36525, then 30; refused, none of it is written.
+#[tactic(auto, using(crate::proofs::Writing::answer_undated, crate::proofs::Writing::buffer_undated))]
+pub fn write_date(writer: &mut Writer<'_>, day: u32) -> Result<usize, Refusal>
+    ensures result_value { says result ≡ date_answer writer.old.buffer.now writer.old.at day }
+    ensures buffer_value { writer.new.buffer.now ≡ date_buffer writer.old.buffer.now writer.old.at day }
+    ensures wrote { Wrote writer.old writer.new (dated_text day) }
 {
     if LAST_DATED < day {
-        return Written::Refused(Refusal::Undated);
+        return Err(Refusal::Undated);
     }
-    if too_short(buffer.len(), at, DATE) {
-        return Written::Refused(Refusal::BufferShort);
-    }
-    write_parts(&mut *buffer, at, date_of(day));
-    Written::Bytes(DATE)
+    writer.bytes(&date_text(date_of(day)))
 }

@@ -21,18 +21,12 @@ const FIRST_DAYS: [u16; YEARS] = [
 ];
 
 // An entry of a table. The table is lent, so that its test is computed over what is given.
+#[tactic(auto, unfolding(crate::specs::Inside::Found::entry_of))]
 fn entry(days: &[u16; YEARS], k: usize) -> u32
     requires { k < 100 }
     ensures { result ≡ entry_of days.now k }
 {
-    wide(days[k])
-}
-
-// A 16-bit number in 32 bits.
-fn wide(n: u16) -> u32
-    ensures { result ≡ n }
-{
-    n as u32
+    u32::from(days[k])
 }
 
 // The first day of the year that comes k years after 2000.

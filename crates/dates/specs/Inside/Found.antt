@@ -1,8 +1,7 @@
 -- A day's year and date, as they are found.
 use Rattle.std.specs.Prelude.{ℕ, ◌+◌, ◌<◌, ◌≤◌, List, get_or}
-use Rattle.calendar.specs.Calendar.{Date, date}
+use Rattle.calendar.specs.declared.Date.{Date}
 use Rattle.calendar.specs.Inside.Years.{first_day}
-use Rattle.dates.specs.declared.finding.Date as code
 
 -- the entry of year k in a table
 unfoldable pub entry_of : List ℕ → ℕ → ℕ
@@ -13,9 +12,6 @@ pub record InYear (k day : ℕ) : Type 0 where
   pub known : k < 100
   pub begun : first_day k ≤ day
   pub going : day < first_day (k + 1)
-
-abbrev pub date_says : code.Date → Date
-date_says t = date t.year t.month t.day
 
 -- a date of four digits and twice two
 pub record Writable (t : Date) : Type 0 where

@@ -1,17 +1,26 @@
-use Rattle.std.proofs.Common.{◌+◌, ap, ◌∙◌}
-use Rattle.calendar.specs.Calendar.{month_days}
-use Rattle.dates.proofs.Searching.{january, next, less, found}
+use Rattle.std.proofs.Common.{◌+◌, ◌≡◌, ap, sym, ◌∙◌, arith}
+use Rattle.calendar.specs.Calendar.{leap, month_days, date}
+use Rattle.calendar.proofs.Counting.{year_most}
+use Rattle.dates.proofs.Searching.{january, next, december, found}
 use Rattle.dates.proofs.finding.date_in.Goals as goal
 
-pub loop-days-init : goal.loop-days-init
-loop-days-init c = january _ _ (c.month_days-days.ensures ∙ ap (λ l. month_days l 1) c.leap-leap.ensures)
+pub loop-month-init : goal.loop-month-init
+loop-month-init c = january _ _
 
-pub loop-days-smaller : goal.loop-days-smaller
-loop-days-smaller c = less _ _ c.loop-days.invariant c.loop-days-test.true
+pub returns-then-left-days : goal.returns-then-left-days
+returns-then-left-days c =
+    found _ c.loop-month.invariant
+    (omega (arith, c.if-left-days.true, c.month_days-days.ensures ∙ ap (λ l. month_days l c.loop-month.month) c.leap-leap.ensures))
 
-pub loop-days-preserved : goal.loop-days-preserved
-loop-days-preserved c =
-    next _ _ c.requires.1 c.loop-days.invariant c.loop-days-test.true (c.month_days-days-in-loop-days.ensures ∙ ap (λ l. month_days l (c.loop-days.month + 1)) c.leap-leap.ensures)
+pub loop-month-preserved : goal.loop-month-preserved
+loop-month-preserved c =
+    next _ _ c.loop-month.invariant c.loop-month-test.true (c.month_days-days.ensures ∙ ap (λ l. month_days l c.loop-month.month) c.leap-leap.ensures) c.if-left-days.false
 
 pub returns : goal.returns
-returns c = found _ c.loop-days.invariant c.loop-days-test.false
+returns c =
+    let i = c.loop-month.invariant in
+    let e : c.loop-month.month ≡ 12 = omega (arith, i.to) in
+    ap (λ m. date (2000 + c.args.k) m (c.loop-month.left + 1)) (sym e) ∙ found _ i (december _ _ c.requires.1 i e)
+
+pub overflow_add-result-2 : goal.overflow_add-result-2
+overflow_add-result-2 c = omega (arith, c.loop-month.invariant.sum, year_most (leap (2000 + c.args.k)), c.requires.1)

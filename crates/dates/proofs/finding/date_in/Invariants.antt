@@ -4,8 +4,5 @@ use Rattle.calendar.specs.Calendar.{leap}
 use Rattle.dates.proofs.Searching.{InMonth}
 use Rattle.dates.proofs.finding.date_in.Given as goal
 
-abbrev pub invariant-loop-days : goal.invariant-loop-days
-invariant-loop-days l = InMonth (leap (2000 + l.k)) l.after l.left l.month l.days
-
-abbrev pub decreases-loop-days : goal.decreases-loop-days
-decreases-loop-days l = l.left
+abbrev pub invariant-loop-month : goal.invariant-loop-month
+invariant-loop-month l = InMonth (leap (2000 + l.k)) l.after l.left l.month

@@ -1,10 +1,7 @@
 -- Year k has begun by the day.
-use Rattle.std.proofs.Common.{◌-◌, ◌<◌, ◌≤◌}
+use Rattle.std.proofs.Common.{◌<◌, ◌≤◌}
 use Rattle.calendar.specs.Inside.Years.{first_day}
 use Rattle.dates.proofs.finding.year_of.Given as goal
 
 abbrev pub invariant-loop-k : goal.invariant-loop-k
 invariant-loop-k l = (l.k < 100) × (first_day l.k ≤ l.day)
-
-abbrev pub decreases-loop-k : goal.decreases-loop-k
-decreases-loop-k l = 100 - l.k
