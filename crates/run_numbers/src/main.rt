@@ -8,13 +8,13 @@ use script_values::{Bytes, narrow, room};
 use show::Shown;
 use std::io;
 use std::io::Write;
+use writer::Writer;
 
 // The number at a position of some bytes: its value, and the position after it.
 fn number<W: Write>(out: &mut W, bytes: &[u8], at: u64) -> io::Result<()> {
-    match number::number_at(bytes, at as usize) {
-        Ok(n) => write!(out, "{} {}", Shown::Number(n.value), n.next),
-        Err(why) => write!(out, "{}", Shown::Refused(why)),
-    }
+    let number = number::number_at(bytes, at as usize);
+    show::answer(out, number.map(|n| Shown::Number(n.value)))?;
+    number.map_or(Ok(()), |n| write!(out, " {}", n.next))
 }
 
 // Writes a number: its value, the position, and the bytes of the buffer. Its length comes after the answer.
@@ -22,13 +22,10 @@ fn write<W: Write>(out: &mut W, line: &[u8]) -> io::Result<()> {
     let mut buffer = show::unwritten();
     let value = narrow(given(line, 0));
     let n = room(given(line, 2));
-    let written = number::write_number(&mut buffer[0..n], given(line, 1) as usize, value);
-    write!(
-        out,
-        "{}/{}",
-        Shown::written(written),
-        number::number_length(value)
-    )?;
+    let mut writer = Writer::new(&mut buffer[0..n], given(line, 1) as usize);
+    let written = number::write_number(&mut writer, value);
+    show::answer(out, written.map(Shown::Bytes))?;
+    write!(out, "/{}", number::number_length(value))?;
     show::buffer(out, &buffer, 0)
 }
 
@@ -64,7 +61,7 @@ fn show_cut<W: Write>(out: &mut W, cut: Option<Cut>) -> io::Result<()> {
             show_box(out, part)?;
             show_box(out, rest)
         }
-        None => write!(out, "{}", Shown::None),
+        None => write!(out, "{}", Shown::NoParts),
     }
 }
 

@@ -13,7 +13,7 @@ fn list<W: Write>(out: &mut W, line: &[u8]) -> io::Result<()> {
     let mut buffer = show::unwritten();
     let n = room(given(line, 1));
     let written = small_requests(narrow(given(line, 0)), &mut buffer[0..n]);
-    write!(out, "{}", Shown::written(written))?;
+    show::answer(out, written.map(Shown::Bytes))?;
     show::buffer(out, &buffer, 0)
 }
 

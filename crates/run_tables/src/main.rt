@@ -2,6 +2,7 @@
 #![tactic(auto)]
 
 use order::Ordered;
+use rules::Refusal;
 use script::{command, given};
 use script_values::{Columns, narrow};
 use show::Shown;
@@ -18,12 +19,12 @@ fn fresh<W: Write>(out: &mut W, line: &[u8]) -> io::Result<()> {
         narrow(given(line, 0)),
         narrow(given(line, 1)),
     );
-    write!(out, "{}", Shown::counted(counted))?;
+    show::answer(out, counted.map(Shown::Count))?;
     show::columns(out, &columns)
 }
 
 // Whether so many rows of the columns are a table.
-fn check(line: &[u8]) -> Shown {
+fn check(line: &[u8]) -> Result<Shown, Refusal> {
     let columns = Columns::of(line);
     table::check_columns(
         columns.id.as_slice(),
@@ -32,13 +33,13 @@ fn check(line: &[u8]) -> Shown {
         columns.q.as_slice(),
         given(line, 0) as usize,
     )
-    .map_or_else(Shown::Refused, |_| Shown::Sound)
+    .map(|_| Shown::Sound)
 }
 
 // The order of two of a table's groups.
-fn order(line: &[u8]) -> Shown {
+fn order(line: &[u8]) -> Result<Shown, Refusal> {
     let columns = Columns::of(line);
-    match order::order(
+    let ordered = order::order(
         columns.id.as_slice(),
         columns.l.as_slice(),
         columns.r.as_slice(),
@@ -46,20 +47,20 @@ fn order(line: &[u8]) -> Shown {
         given(line, 0) as usize,
         narrow(given(line, 1)),
         narrow(given(line, 2)),
-    ) {
-        Ok(Ordered::Same) => Shown::Same,
-        Ok(Ordered::First) => Shown::First,
-        Ok(Ordered::Second) => Shown::Second,
-        Ok(Ordered::Incomparable) => Shown::Incomparable,
-        Err(why) => Shown::Refused(why),
-    }
+    );
+    ordered.map(|o| match o {
+        Ordered::Same => Shown::Same,
+        Ordered::First => Shown::First,
+        Ordered::Second => Shown::Second,
+        Ordered::Incomparable => Shown::Incomparable,
+    })
 }
 
 fn main(rt: HostRuntime) -> io::Result<()> {
     show::run(&rt, |out, line| match command(line) {
         Some(b'f') => fresh(out, line),
-        Some(b'c') => write!(out, "{}", check(line)),
-        Some(b'o') => write!(out, "{}", order(line)),
+        Some(b'c') => show::answer(out, check(line)),
+        Some(b'o') => show::answer(out, order(line)),
         _ => Ok(()),
     })
 }

@@ -26,6 +26,10 @@ module _ (end at : ℕ) (b : Bytes) where
     unfolding until_from
     until_end l k = rw (left, lt-ltb _ _ l, le-ltb _ _ k)
 
-    pub until_more : at < b.count → b.count < end → bytes_until end at b ≡ bytes_until end (at + 1) (byte_put (get_or b.buffer at 0) b)
+    pub until_more : {next : ℕ} {more : Bytes} → at < b.count → b.count < end → next ≡ at + 1 → more ≡ byte_put (get_or b.buffer at 0) b
+        → bytes_until end next more ≡ bytes_until end at b
     unfolding until_from
-    until_more l k = rw (left, lt-ltb _ _ l, lt-ltb _ _ k, lt-ltb _ _ h)
+    until_more l k e m = rw (left, lt-ltb _ _ l, lt-ltb _ _ k, e, m, lt-ltb _ _ h)
+
+    pub one_more : (byte : ℕ) {more : Bytes} → more ≡ byte_put byte b → more.count ≡ b.count + 1
+    one_more byte m = rw (m, lt-ltb _ _ h)

@@ -94,14 +94,15 @@ impl Bytes {
     }
 
     // The bytes from a position on, again and again until there are so many.
-    #[tactic(auto, using(crate::proofs::Laws::until_more, crate::proofs::Laws::until_full, crate::proofs::Laws::until_end, crate::proofs::Laws::until_at))]
+    #[tactic(auto, using(crate::proofs::Laws::until_more, crate::proofs::Laws::one_more, crate::proofs::Laws::until_full, crate::proofs::Laws::until_end, crate::proofs::Laws::until_at))]
     fn put_until(&mut self, from: usize, end: u64)
         ensures { self.new ≡ bytes_until end from self.old }
     {
-        let mut at = from;
-        while self.count < ROOM && at < self.count && (self.count as u64) < end {
-            self.put_byte(self.buffer[at]);
-            at += 1;
+        let count = self.count;
+        if from < count {
+            for n in count..end.min(65536) as usize {
+                self.put_byte(self.buffer[n - (count - from)]);
+            }
         }
     }
 

@@ -2,7 +2,7 @@
 // to say.
 #![tactic(auto)]
 
-ghost use Rattle.std.specs.Prelude.{◌≡◌, ◌≤◌, length, replicate, MatchResult, if◌then◌else◌};
+ghost use Rattle.std.specs.Prelude.{◌≡◌, ◌≤◌, length, replicate, if◌then◌else◌};
 ghost use Rattle.show.specs.Shown.{used_of, between_of};
 ghost use Rattle.show.specs.declared.Shown.TheVariants.{Yes, Not};
 
@@ -35,10 +35,9 @@ pub fn run<F: Fn(&mut Vec<u8>, &[u8]) -> io::Result<()>>(
     rt.write_all(&out)
 }
 
-// What a call answers.
+// What a call finds.
 #[derive(Clone, Copy)]
 pub enum Shown {
-    Refused(Refusal),
     Count(usize),
     Bytes(usize),
     Number(u32),
@@ -55,23 +54,9 @@ pub enum Shown {
     Yes,
     Not,
     Parts,
-    None,
+    NoParts,
     // No refusal, and so without a number.
     NoRoom,
-}
-
-impl Shown {
-    pub fn counted(answer: Result<usize, Refusal>) -> Shown
-        ensures { MatchResult answer (λ n. result ≡ Shown.Count n) (λ why. result ≡ Shown.Refused why) }
-    {
-        answer.map_or_else(Shown::Refused, Shown::Count)
-    }
-
-    pub fn written(answer: Result<usize, Refusal>) -> Shown
-        ensures { MatchResult answer (λ n. result ≡ Shown.Bytes n) (λ why. result ≡ Shown.Refused why) }
-    {
-        answer.map_or_else(Shown::Refused, Shown::Bytes)
-    }
 }
 
 impl From<bool> for Shown {
@@ -85,7 +70,6 @@ impl From<bool> for Shown {
 impl fmt::Display for Shown {
     fn fmt<W: fmt::Write>(&self, f: &mut fmt::Formatter<W>) -> fmt::Result {
         match *self {
-            Shown::Refused(why) => write!(f, ": no {}", why.number()),
             Shown::Count(n) => write!(f, ": count {n}"),
             Shown::Bytes(n) => write!(f, ": bytes {n}"),
             Shown::Number(n) => write!(f, ": number {n}"),
@@ -102,9 +86,17 @@ impl fmt::Display for Shown {
             Shown::Yes => f.write_str(": yes"),
             Shown::Not => f.write_str(": not"),
             Shown::Parts => f.write_str(": parts"),
-            Shown::None => f.write_str(": none"),
+            Shown::NoParts => f.write_str(": none"),
             Shown::NoRoom => f.write_str(": no room"),
         }
+    }
+}
+
+// What a call answers: what it finds, or the number of its refusal.
+pub fn answer<W: Write>(out: &mut W, answer: Result<Shown, Refusal>) -> io::Result<()> {
+    match answer {
+        Ok(shown) => write!(out, "{shown}"),
+        Err(why) => write!(out, ": no {}", why.number()),
     }
 }
 
