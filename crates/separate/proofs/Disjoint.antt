@@ -1,8 +1,6 @@
 -- Boxes that are disjoint two by two, by their places.
-use Rattle.std.proofs.Common.{◌≡◌, ℕ, zero, suc, ◌<◌, true, false, ◌&&◌, ltb, List, [], ◌∷◌, length, sym, refl, ◌∙◌, true≢false, arith, ltb-true, lt-ltb}
+use Rattle.std.proofs.Common.{◌≡◌, ℕ, zero, suc, ◌<◌, ◌≤◌, min, true, false, List, [], ◌∷◌, length, refl, arith}
 use mathlib.Core.Bool.{and-false}
-use Rattle.rules.proofs.Bools.{and_both}
-use Rattle.rules.proofs.Cases.{by_lt}
 use Rattle.boxes.specs.Boxes.{box_of, disjoint}
 use Rattle.boxes.specs.declared.Box.{Box}
 use Rattle.separate.specs.Separate.{boxes_of, none_meets, all_disjoint}
@@ -24,20 +22,13 @@ in_more h = record { in_l = omega (arith, h.in_l); in_r = omega (arith, h.in_r);
 in_less : {x y z : ℕ} {l r q : List ℕ} {j : ℕ} → In (x ∷ l) (y ∷ r) (z ∷ q) (suc j) → In l r q j
 in_less h = record { in_l = omega (arith, h.in_l); in_r = omega (arith, h.in_r); in_q = omega (arith, h.in_q) }
 
--- the test that row i is in all three
+-- below the least of the three lengths, and above each row of all three
 module _ (l r q : List ℕ) (i : ℕ) where
-  pub in_all : (ltb i (length l) && (ltb i (length r) && ltb i (length q))) ≡ true → In l r q i
-  in_all e =
-      let a = and_both (ltb i (length l)) _ e in
-      let b = and_both (ltb i (length r)) _ a.1 in
-      record { in_l = ltb-true _ _ a.0; in_r = ltb-true _ _ b.0; in_q = ltb-true _ _ b.1 }
+  pub in_all : i < min (min (length l) (length r)) (length q) → In l r q i
+  in_all h = record { in_l = omega arith; in_r = omega arith; in_q = omega arith }
 
-  pub past_one : {j : ℕ} → (ltb i (length l) && (ltb i (length r) && ltb i (length q))) ≡ false → In l r q j → j < i
-  past_one {j} e h =
-      by_lt j i (λ k. k)
-      (λ k. absurd
-      (true≢false
-      (sym (rw (lt-ltb i (length l) (omega (arith, h.in_l)), lt-ltb i (length r) (omega (arith, h.in_r)), lt-ltb i (length q) (omega (arith, h.in_q)))) ∙ e)))
+  pub in_below : {j : ℕ} → min (min (length l) (length r)) (length q) ≤ i → In l r q j → j < i
+  in_below {j} h n = omega (arith, n.in_l, n.in_r, n.in_q)
 
 none_meets_lem : (b : Box) (l r q : List ℕ) → ((j : ℕ) → In l r q j → disjoint b (box_at l r q j) ≡ true) → none_meets b (boxes_of l r q) ≡ true
 unfolding none_meets boxes_of

@@ -5,7 +5,6 @@ ghost use Rattle.separate.specs.Inside.Certificate.{InOrder, AllApart};
 
 use crate::pairs::MANY_ROWS;
 use crate::sorting::{FEW_ROWS, sort_few, sort_many};
-use crate::widening::{long, row_of};
 use rules::ROW_CAPACITY;
 
 // Each range begins past the one before it, and has a number.
@@ -14,21 +13,19 @@ fn ranges_in_order(start: &[u32], size: &[u32], order: &[u8; ROW_CAPACITY]) -> b
     ensures { result ≡ true → InOrder start.now size.now order.now (length start.now) }
 {
     let mut past = 0;
-    let mut k = 0;
-    while k < start.len() {
-        let row = row_of(order[k]);
+    for k in 0..start.len() {
+        let row = usize::from(order[k]);
         if start.len() <= row {
             return false;
         }
-        let first = long(start[row]);
+        let first = u64::from(start[row]);
         if first < past {
             return false;
         }
-        past = first + long(size[row]);
+        past = first + u64::from(size[row]);
         if past <= first {
             return false;
         }
-        k += 1;
     }
     true
 }

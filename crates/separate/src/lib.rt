@@ -4,6 +4,5 @@
 mod certifying;
 mod pairs;
 mod sorting;
-mod widening;
 
 pub use pairs::boxes_separate;

@@ -15,12 +15,10 @@ fn box_above(l: &[u32], r: &[u32], q: &[u32], i: usize) -> bool
     ensures { BoxesAbove l.now r.now q.now i result }
 {
     let own = Box::new(l[i], r[i], q[i]);
-    let mut j = 0;
-    while j < i {
+    for j in 0..i {
         if !Box::new(l[j], r[j], q[j]).disjoint(own) {
             return true;
         }
-        j += 1;
     }
     false
 }
@@ -35,12 +33,10 @@ pub fn boxes_separate(l: &[u32], r: &[u32], q: &[u32]) -> bool
             return true;
         }
     }
-    let mut i = 0;
-    while (i < l.len()) & ((i < r.len()) & (i < q.len())) {
+    for i in 0..l.len().min(r.len()).min(q.len()) {
         if box_above(l, r, q, i) {
             return false;
         }
-        i += 1;
     }
     true
 }

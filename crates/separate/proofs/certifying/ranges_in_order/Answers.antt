@@ -7,7 +7,7 @@ loop-k-init c = chain_none _ _ _ _
 
 pub loop-k-preserved : goal.loop-k-preserved
 loop-k-preserved c =
-    chain_more _ _ _ _ c.loop-k.k c.loop-k.invariant c.row_of-row.ensures.0 (omega arith) c.long-first.ensures.0 (omega arith) (omega arith) (omega arith)
+    chain_more _ _ _ _ c.loop-k.k c.loop-k.invariant c.from-row.ensures (omega arith) c.from-first.ensures (omega arith) (omega arith) (omega arith)
 
 pub returns : goal.returns
 returns c = λ _. chain_all _ _ _ _ c.loop-k.invariant c.loop-k-test.false

@@ -1,10 +1,7 @@
 -- `separate::certifying::ranges_in_order` meets its contract. The loop's invariant: the ranges passed follow each other, and end before `past`.
-use Rattle.std.proofs.Common.{◌-◌, length}
+use Rattle.std.proofs.Common.{length}
 use Rattle.separate.proofs.Certificate.{Chain}
 use Rattle.separate.proofs.certifying.ranges_in_order.Given as goal
 
 abbrev pub invariant-loop-k : goal.invariant-loop-k
 invariant-loop-k l = Chain l.start l.size l.order (length l.start) l.k l.past
-
-abbrev pub decreases-loop-k : goal.decreases-loop-k
-decreases-loop-k l = length l.start - l.k
