@@ -1,66 +1,73 @@
--- What the check of work columns says of the rows in them, and where a table that was read fits.
-use mathlib.Core.Path.{◌≡◌, refl, ap, sym, ◌∙◌}
+-- What the check of work columns says of the rows in them, and of the table that was read.
+use mathlib.Core.Path.{◌≡◌, ap, sym, ◌∙◌}
+use mathlib.Core.Bool.{true, false}
 use mathlib.Core.List.{List}
 use Prim.Native.Nat.{ℕ, ◌≤◌}
 use native.Mathlib.Omega.{arith}
 use lib.ListN.{length}
-use Rattle.rules.specs.Answers.{answer, refused, given}
-use Rattle.rules.specs.Refusals.{refusal_number}
-use Rattle.rules.specs.declared.Refusal.{Refusal}
 use Rattle.rules.specs.Capacities.{row_capacity}
-use Rattle.table.specs.Columns.{Row, Columns, rows_from, rows, put, counted, afterwards}
-use Rattle.table.specs.Check.{lengths_bad, sound_rows, checked}
-use Rattle.table.specs.Inside.Held.{Holds}
-use Rattle.table.specs.Says.{checked_says, counted_says}
-use Rattle.table.specs.declared.Checked.{Checked}
-use Rattle.table.specs.declared.Checked.TheVariants as verdict
-use Rattle.table.specs.declared.Counted.{Counted}
-use Rattle.table.specs.declared.Counted.TheVariants as count
+use Rattle.rules.specs.Answers.{answer, refused}
+use Rattle.number.specs.Number.{number_at}
+use Rattle.number.specs.declared.Number.{Number}
+use Rattle.table.specs.Columns.{Columns, columns, rows, overlay, counted, afterwards}
+use Rattle.table.specs.declared.in_use.RowsInUse.{RowsInUse}
+use Rattle.table.specs.InUse.{columns_of, rows_of, Cut}
+use Rattle.table.specs.Check.{lengths_bad, count_bad, sound_rows, checked}
+use Rattle.table.proofs.Lengths.{lengths_good, count_good, good_count}
 use Rattle.table.proofs.Rows.{rows_length}
-use Rattle.table.proofs.Lengths.{lengths_good, good_count, holds_count}
-use Rattle.table.proofs.Passing.{sound, unsound}
-use Rattle.stored.specs.Stored.{read_rows}
-use Rattle.stored.proofs.Laws.{read_found}
-use Rattle.load.specs.Inside.Says.{rows_checked, rows_counted}
+use Rattle.table.proofs.InUse.{put_in_use, cut_length}
+use Rattle.stored.specs.Stored.{rows_to_end, read_rows}
 
 -- work columns pass 10
-module _ (c : Columns) {count : ℕ} (hi : length c.id ≡ row_capacity) (hl : length c.l ≡ row_capacity) (hr : length c.r ≡ row_capacity) (hq : length c.q ≡ row_capacity)
-    (some : 1 ≤ count) (most : count ≤ row_capacity)
-  where
-    work_checked : checked c count ≡ sound_rows (rows c count)
-    unfolding checked lengths_bad
-    work_checked = rw (hi, hl, hr, hq, good_count row_capacity count some most)
+pub work_checked : (c : Columns) {count : ℕ} → length c.id ≡ row_capacity → length c.l ≡ row_capacity → length c.r ≡ row_capacity → length c.q ≡ row_capacity
+    → 1 ≤ count → count ≤ row_capacity → checked c count ≡ sound_rows (rows c count)
+unfolding checked lengths_bad
+work_checked c {count} hi hl hr hq some most = rw (hi, hl, hr, hq, good_count row_capacity count some most)
 
-    pub rows_checked_lem : (v : Checked) → checked_says v ≡ given (checked c count) → rows_checked v c count ≡ sound_rows (rows c count)
-    rows_checked_lem verdict.Sound e = sym (sound c count e refl).1 ∙ work_checked
-    rows_checked_lem (verdict.Refused why) e = sym (unsound c count e {why = why} refl) ∙ work_checked
+-- ## Each step of a read
 
--- rows that were read fit into the columns
-read_fits : (d : Columns) (bytes : List ℕ) {t : List Row} → read_rows d bytes ≡ answer t → Holds d (length t) × (length t ≤ row_capacity)
-read_fits d bytes e =
-    let r = read_found d bytes e in
-    let l = lengths_good d r.lengths in
-    (holds_count l r.most, omega (arith, l.most, r.most))
+module _ (d : Columns) (bytes : List ℕ) where
+  -- a refused read leaves the columns
+  pub not_read : {n : ℕ} → refused n ≡ read_rows d bytes → (refused n ≡ counted (read_rows d bytes)) × (d ≡ afterwards (read_rows d bytes) d)
+  not_read e = (ap counted e, ap (λ a. afterwards a d) e)
 
--- what a read found, and as many rows to copy: none where it is refused
-pub record Copied (d : Columns) (bytes : List ℕ) (w : Columns) (v : Counted) (n : ℕ) : Type 0 where
-  pub fits : Holds d n
-  pub most : n ≤ row_capacity
-  pub answered : counted_says v ≡ counted (read_rows d bytes)
-  pub after : put (rows w n) d ≡ afterwards (read_rows d bytes) d
+  pub bad_lengths : lengths_bad d ≡ true → refused 10 ≡ read_rows d bytes
+  unfolding read_rows
+  bad_lengths e = rw e
 
-module _ {d : Columns} {bytes : List ℕ} {w : Columns} {u v : Counted} {n : ℕ} (e : rows_counted u w ≡ read_rows d bytes) where
-  pub copied_none : {why : Refusal} → v ≡ u → u ≡ count.Refused why → n ≡ 0 → Copied d bytes w v n
-  unfolding put rows_from
-  copied_none {why} same h z =
-      let f : refused (refusal_number why) ≡ read_rows d bytes = ap (λ (x : Counted). rows_counted x w) (sym h) ∙ e in
-      rw (z, same, h)
-      (record { fits = record { in_id = omega arith; in_l = omega arith; in_r = omega arith; in_q = omega arith }; most = omega arith; answered = rw (← f); after = rw (← f) })
+  module _ (good : lengths_bad d ≡ false) where
+    pub no_count : {n : ℕ} → refused n ≡ number_at bytes 0 → refused n ≡ read_rows d bytes
+    unfolding read_rows
+    no_count e = rw (good, ← e)
 
-  pub copied_all : {m : ℕ} → v ≡ count.Count m → u ≡ count.Count m → n ≡ m → Copied d bytes w v n
-  copied_all {m} same h k =
-      let f : answer (rows w m) ≡ read_rows d bytes = ap (λ (x : Counted). rows_counted x w) (sym h) ∙ e in
-      let l = rows_length w 0 m in
-      let r = read_fits d bytes (sym f) in
-      rw (k, same)
-      (record { fits = rw l at r.0; most = omega (arith, r.1); answered = rw (← f, l); after = rw (← f) })
+    module _ {first : Number} (e : answer first ≡ number_at bytes 0) where
+      pub bad_count : count_bad (length d.id) first.value ≡ true → refused 10 ≡ read_rows d bytes
+      unfolding read_rows
+      bad_count f = rw (good, ← e, f)
+
+      module _ (fits : count_bad (length d.id) first.value ≡ false) where
+        pub rows_on : rows_to_end first.value bytes first.next ≡ read_rows d bytes
+        unfolding read_rows
+        rows_on = rw (good, ← e, fits)
+
+        pub count_fits : (1 ≤ first.value) × (first.value ≤ length d.id) × (first.value ≤ row_capacity)
+        count_fits =
+            let l = lengths_good d good in
+            let k = count_good (length d.id) first.value fits in
+            (k.0, k.1, omega (arith, l.most, k.1))
+
+-- rows in use that were read are the columns' rows, as far as there are
+pub were_read : (u : RowsInUse) (d : Columns) (bytes : List ℕ) → answer (rows_of u) ≡ read_rows d bytes
+    → (answer (length u.id.now) ≡ counted (read_rows d bytes))
+    × (columns (overlay u.id.now d.id) (overlay u.l.now d.l) (overlay u.r.now d.r) (overlay u.q.now d.q) ≡ afterwards (read_rows d bytes) d)
+were_read u d bytes e =
+    let n : length (rows_of u) ≡ length u.id.now = rows_length (columns_of u) 0 (length u.id.now) in
+    (ap answer (sym n) ∙ ap counted e, sym (put_in_use u d) ∙ ap (λ a. afterwards a d) e)
+
+-- they fit into columns that have the count
+pub room_in : (u : RowsInUse) (d : Columns) {w : Columns} {count : ℕ} → lengths_bad d ≡ false → count ≤ length d.id → Cut u w count
+    → (length u.id.now ≤ length d.id) × (length u.l.now ≤ length d.l) × (length u.r.now ≤ length d.r) × (length u.q.now ≤ length d.q)
+room_in u d good fits k =
+    let l = lengths_good d good in
+    let n = cut_length k in
+    (omega (arith, l.in_l), omega (arith, u.same_l, l.in_l), omega (arith, u.same_r, l.in_r), omega (arith, u.same_q, l.in_q))

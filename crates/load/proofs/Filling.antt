@@ -3,19 +3,21 @@ use mathlib.Core.Path.{◌≡◌, refl, ap, ap₂, sym, ◌∙◌}
 use mathlib.Core.List.{List, [], ◌∷◌, ◌++◌, append-nil}
 use Prim.Native.Nat.{ℕ, zero, suc, ◌+◌, ◌-◌, ◌<◌, ◌≤◌}
 use native.Mathlib.Omega.{arith}
-use lib.ListN.{set, length-set}
+use lib.ListN.{length, length-set}
 use lib.Seq.{get_or-set_same, get_or-set_other, append_snoc}
 use Rattle.rules.specs.Answers.{Answer, answer, refused, then}
-use Rattle.table.specs.Columns.{Row, Columns, columns, row_at, rows_from, rows}
+use Rattle.table.specs.Columns.{Columns, row_at, rows_from, rows}
+use Rattle.table.specs.declared.Row.{Row}
 use Rattle.table.specs.Inside.Held.{Holds}
 use Rattle.table.proofs.Rows.{rows_more}
-use Rattle.stored.specs.Stored.{RowRead, row_found, row_read, Rows, joined, rows_at}
+use Rattle.stored.specs.Stored.{row_read, Rows, joined, rows_at}
+use Rattle.stored.specs.declared.RowRead.{RowRead}
 use Rattle.stored.proofs.Laws.{rows_suc}
+use Rattle.load.specs.Work.{work_columns, set_row}
+use Rattle.load.specs.declared.work.Work.{Work}
+use Rattle.rules.specs.Capacities.{row_capacity}
 
 -- ## A row set in columns
-
-abbrev set_row : Columns → ℕ → Row → Columns
-set_row c i w = columns (set c.id i w.id) (set c.l i w.l) (set c.r i w.r) (set c.q i w.q)
 
 set_holds : {c : Columns} {n : ℕ} (i : ℕ) (w : Row) → Holds c n → Holds (set_row c i w) n
 set_holds {c} i w h =
@@ -46,6 +48,10 @@ set_more c i w h =
     let e = get_or-set_same c.q i w.q 0 (omega (arith, h.in_q)) in
     let v : row_at (set_row c i w) i ≡ record { id = w.id; l = w.l; r = w.r; q = w.q } = cc in
     rows_more (set_row c i w) i ∙ ap₂ (λ (s : List Row) (v : Row). s ++ (v ∷ [])) (set_kept c i w 0 i (omega arith)) v
+
+-- work columns hold as many rows as columns may have
+pub work_holds : {w : Work} {n : ℕ} → length w.id ≡ row_capacity → length w.l ≡ row_capacity → length w.r ≡ row_capacity → length w.q ≡ row_capacity → n ≤ row_capacity → Holds (work_columns w) n
+work_holds i l r q h = record { in_id = omega arith; in_l = omega arith; in_r = omega arith; in_q = omega arith }
 
 -- ## The rows read so far, and those still to be read
 
@@ -79,11 +85,10 @@ module _ {bytes : List ℕ} {at count : ℕ} {c : Columns} {next i : ℕ} (f : F
       let e : count - i ≡ suc (count - (i + 1)) = omega arith in
       sym (ap (behind (rows c i)) (ap (λ (n : ℕ). rows_at n bytes next) e ∙ rows_suc (count - (i + 1)) bytes next)) ∙ f.whole
 
-  pub fill_again : {id l r q after : ℕ} → i < count → row_read bytes next ≡ row_found id l r q after
-      → Fills bytes at count (set_row c i (record { id = id; l = l; r = r; q = q })) after (i + 1)
-  fill_again {id} {l} {r} {q} {after} less e =
-      let w : Row = record { id = id; l = l; r = r; q = q } in
-      let rest = rows_at (count - (i + 1)) bytes after in
+  pub fill_again : {read : RowRead} → i < count → answer read ≡ row_read bytes next → Fills bytes at count (set_row c i read.row) read.next (i + 1)
+  fill_again {read} less e =
+      let w = read.row in
+      let rest = rows_at (count - (i + 1)) bytes read.next in
       let h = f.holds in
       record {
         within = omega arith;
@@ -91,11 +96,11 @@ module _ {bytes : List ℕ} {at count : ℕ} {c : Columns} {next i : ℕ} (f : F
         whole =
             ap (λ (s : List Row). behind s rest) (set_more c i w (record { in_id = omega arith; in_l = omega arith; in_r = omega arith; in_q = omega arith }))
             ∙ behind_more (rows c i) w rest
-            ∙ rw e at (step less);
+            ∙ rw (sym e) at (step less);
       }
 
-  pub fill_stops : {n : ℕ} → i < count → row_read bytes next ≡ refused n → refused n ≡ rows_at count bytes at
-  fill_stops less e = rw e at (step less)
+  pub fill_stops : {n : ℕ} → i < count → refused n ≡ row_read bytes next → refused n ≡ rows_at count bytes at
+  fill_stops less e = rw (sym e) at (step less)
 
   pub fill_ends : count ≤ i → answer (record { rows = rows c count; next = next }) ≡ rows_at count bytes at
   unfolding rows_at

@@ -18,7 +18,8 @@ use Rattle.number.proofs.Runs.{run_back, Stands, both_stand, one_stands, run_sta
 use Rattle.table.specs.Columns.{Columns, row_at, rows_from, rows}
 use Rattle.table.specs.declared.Row.{Row}
 use Rattle.table.specs.Check.{some_row, lengths_bad, count_bad, value_bad, sound_rows, checked}
-use Rattle.stored.specs.Stored.{row_bytes, rows_bytes, table_bytes, RowRead, row_found, row_read, Rows, joined, rows_at, rows_to_end, read_rows}
+use Rattle.stored.specs.Stored.{row_bytes, rows_bytes, table_bytes, row_found, row_read, Rows, joined, rows_at, rows_to_end, read_rows}
+use Rattle.stored.specs.declared.RowRead.{RowRead}
 use Rattle.table.proofs.Rows.{rows_length}
 use Rattle.table.proofs.Lengths.{lengths_good, count_good, good_count}
 use Rattle.table.proofs.Passing.{good_rows, rows_good, check_passed}

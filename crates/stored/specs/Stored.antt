@@ -6,6 +6,7 @@ use Rattle.rules.specs.Buffers.{written, after}
 use Rattle.number.specs.Number.{number_at, bytes_of}
 use Rattle.table.specs.Columns.{Columns}
 use Rattle.table.specs.declared.Row.{Row}
+use Rattle.stored.specs.declared.RowRead.{RowRead}
 use Rattle.table.specs.Check.{lengths_bad, count_bad, sound_rows, checked}
 
 unfoldable pub row_bytes : Row → List ℕ
@@ -26,10 +27,6 @@ store_buffer (answer t) buffer = after buffer 0 (table_bytes t)
 store_buffer (refused n) buffer = buffer
 
 -- a row that stands in bytes, and the position after it
-pub record RowRead : Type 0 where
-  pub row : Row
-  pub next : ℕ
-
 abbrev pub row_found : (id l r q next : ℕ) → Answer RowRead
 row_found id l r q next = answer (record { row = record { id = id; l = l; r = r; q = q }; next = next })
 

@@ -5,8 +5,8 @@ use mathlib.Core.List.{List, [], ◌∷◌, map}
 use Prim.Native.Nat.{ℕ, zero, suc, ◌+◌, ◌≤◌}
 use native.Mathlib.Omega.{arith}
 use lib.Dec.{eqb}
-use lib.ListN.{length, get_or, take, drop}
-use lib.Seq.{drop-cons, take-length}
+use lib.ListN.{length, take, drop}
+use lib.Seq.{take-length}
 use Rattle.std.proofs.lemmas.List.{take_all}
 use Rattle.coordinates.specs.Coordinates.{apart}
 use Rattle.boxes.specs.Boxes.{box_of, disjoint}
@@ -15,6 +15,7 @@ use Rattle.distinct.specs.Distinct.{none_is, all_differ}
 use Rattle.separate.specs.Separate.{boxes_of, none_meets, all_disjoint}
 use Rattle.table.specs.Columns.{low_l, low_r, size_of, Columns, row_at, rows_from}
 use Rattle.table.specs.declared.Row.{Row}
+use Rattle.table.proofs.InUse.{column_next, column_rows}
 use Rattle.table.specs.Check.{some_row, some_pair, same_id, ranges_meet}
 use Rattle.table.specs.InUse.{columns_of, rows_of}
 use Rattle.table.specs.declared.in_use.RowsInUse.{RowsInUse}
@@ -23,16 +24,7 @@ not_or : (a b : Bool) → (not a && not b) ≡ not (a || b)
 not_or true b = refl
 not_or false b = refl
 
--- a column from row i on is its value in row i, and the column from the next row on
-next : (s : List ℕ) (i n : ℕ) → i + suc n ≤ length s → take (suc n) (drop i s) ≡ get_or s i 0 ∷ take n (drop (suc i) s)
-next s i n h = let k : suc i ≤ length s = omega arith in rw (drop-cons s i 0)
-
 -- ## Ids
-
-ids_of : (c : Columns) (i n : ℕ) → i + n ≤ length c.id → take n (drop i c.id) ≡ map (λ w. w.id) (rows_from c i n)
-unfolding rows_from
-ids_of c i zero h = refl
-ids_of c i (suc n) h = next c.id i n h ∙ ap (λ (s : List ℕ). get_or c.id i 0 ∷ s) (ids_of c (suc i) n (omega arith))
 
 none_same : (w : Row) (t : List Row) → none_is w.id (map (λ v. v.id) t) ≡ not (some_row (same_id w) t)
 unfolding none_is some_row same_id
@@ -54,7 +46,7 @@ boxes_of_lem : (c : Columns) (i n : ℕ) → i + n ≤ length c.l → i + n ≤ 
 unfolding rows_from boxes_of
 boxes_of_lem c i zero hl hr hq = refl
 boxes_of_lem c i (suc n) hl hr hq =
-    rw (next c.l i n hl, next c.r i n hr, next c.q i n hq)
+    rw (column_next c.l i n hl, column_next c.r i n hr, column_next c.q i n hq)
     (ap (λ (s : List Box). box_for (row_at c i) ∷ s) (boxes_of_lem c (suc i) n (omega arith) (omega arith) (omega arith)))
 
 not_meet : (a b : Bool) → (a && b) ≡ not (not a || not b)
@@ -86,7 +78,7 @@ module _ (u : RowsInUse) {t b : Bool} where
   pub twelve : t ≡ all_differ u.id.now → not t ≡ b → some_pair same_id (rows_of u) ≡ b
   twelve e =
       let all = take-length u.id.now in
-      turned e (ap all_differ (sym all ∙ ids_of (columns_of u) 0 (length u.id.now) (omega arith)) ∙ all_differ_lem (rows_of u))
+      turned e (ap all_differ (sym all ∙ column_rows (λ w. w.id) u.id.now (columns_of u) (λ i. refl) 0 (length u.id.now) (omega arith)) ∙ all_differ_lem (rows_of u))
 
   -- 13 is for boxes that are not all disjoint
   pub thirteen : t ≡ all_disjoint (boxes_of u.l.now u.r.now u.q.now) → not t ≡ b → some_pair ranges_meet (rows_of u) ≡ b

@@ -1,2 +1,0 @@
-pub mod Says
-pub mod Values
