@@ -1,35 +1,36 @@
 -- A line's fields, written one after another.
-use mathlib.Core.Path.{◌≡◌, refl, ap, sym, ◌∙◌}
+use mathlib.Core.Path.{◌≡◌, refl, ap, sym, ◌∙◌, subst}
 use mathlib.Core.Bool.{Bool, true, false, cond, not, ◌&&◌, ◌||◌}
-use mathlib.Core.List.{List, [], ◌∷◌, append-nil}
-use Prim.Native.Nat.{ℕ, zero, suc, ◌+◌, ◌-◌, ◌<◌, ◌≤◌}
+use mathlib.Core.List.{List, [], ◌∷◌, ◌++◌, append-nil, append_assoc}
+use Prim.Native.Nat.{ℕ, zero, suc, ◌+◌, ◌-◌, ◌≤◌}
 use native.Mathlib.Omega.{arith}
 use lib.Dec.{eqb, leb, ltb}
-use lib.ListN.{length, set, take, replicate, length-append, length-replicate}
+use lib.ListN.{length, take, replicate, length-append, length-replicate}
 use borrow.Author.Tests.{ne_eqb, ltb-false}
 use Rattle.rules.specs.Answers.{answer, refused}
 use Rattle.rules.specs.Buffers.{written, after}
 use Rattle.rules.proofs.Bools.{or_none}
-use Rattle.rules.proofs.Buffers.{written_all, kept, after_all, after_same, after_then}
-use Rattle.rules.proofs.Pieces.{length_four, four_written}
+use Rattle.rules.proofs.Pieces.{length_four}
+use Rattle.writer.specs.declared.Writer.{Writer}
+use Rattle.writer.specs.Writing.{Wrote, WroteAll}
+use Rattle.writer.proofs.Writing.{wrote_all, wrote_then, wrote_both, whole_short, whole_wrote}
 use Rattle.text.specs.Decimal.{decimal}
 use Rattle.text.specs.Letters.{letters}
 use Rattle.text.proofs.Laws.{decimal_count}
-use Rattle.calendar.specs.Calendar.{Date, date_of, last_dated}
-use Rattle.dates.specs.Dates.{date_text}
-use Rattle.dates.proofs.Writing.{date_count}
+use Rattle.calendar.specs.declared.Date.{Date}
+use Rattle.calendar.specs.Calendar.{date_of, last_dated}
+use Rattle.dates.specs.Dates.{date_text, dated_text}
+use Rattle.dates.proofs.Writing.{date_count, dated_is, wrote_nothing}
 use Rattle.grant.specs.Grant.{Grant}
 use Rattle.matching.specs.Matching.{Window, window}
 use Rattle.renewals.specs.Dating.{is_open, runs, has_ended}
-use Rattle.board.specs.Board.{right_in, left_in, last_text, state_text, field, grant_line, undated, line_answer, line_buffer}
+use Rattle.board.specs.Board.{right_in, left_in, last_text, state_text, field, grant_line, undated, dated_line, line_answer, line_buffer}
 
 -- a field's text, and then one byte
-pub field_written : (buffer : List ℕ) (at : ℕ) (text : List ℕ) (last : ℕ) {first : List ℕ} {p : ℕ} → at + (length text + 1) ≤ length buffer
-    → first ≡ after buffer at text → p ≡ at + length text → set first p last ≡ after buffer at (field text last)
+pub field_written : {old mid new : Writer} {text : List ℕ} {last : ℕ} → Wrote old mid text → Wrote mid new (last ∷ []) → old.at + (length text + 1) ≤ length old.buffer.now
+    → WroteAll old new (field text last)
 unfolding field
-field_written buffer at text last {first} {p} h e k =
-    let s = ap length e ∙ after_same buffer at text (omega arith) in
-    after_then buffer at text (last ∷ []) (omega arith) e k (sym (after_all first p (last ∷ []) (omega arith)))
+field_written {text = text} {last} w v h = wrote_then w (wrote_all v) (omega (arith, length-append text (last ∷ [])))
 
 field_count : (text : List ℕ) (last : ℕ) → length (field text last) ≡ length text + 1
 unfolding field
@@ -51,16 +52,16 @@ pub feature_length : (n : ℕ) → length (field (right_in 10 (decimal n)) 32) �
 feature_length n = omega (arith, field_count (right_in 10 (decimal n)) 32, feature_count n)
 
 -- blanks, digits, and a space
-pub feature_written : (buffer : List ℕ) (at n : ℕ) {blank : ℕ} {first second : List ℕ} → at + 11 ≤ length buffer → blank ≡ 10 - length (decimal n)
-    → first ≡ after buffer at (replicate blank 32) → second ≡ after first (at + blank) (decimal n)
-    → set second (at + 10) 32 ≡ after buffer at (field (right_in 10 (decimal n)) 32)
-unfolding right_in
-feature_written buffer at n h b e f =
-    let c = length-replicate {A = ℕ} (10 - length (decimal n)) 32 in
+pub feature_written : {old first second new : Writer} (n : ℕ) {blanks : List ℕ} → old.at + 11 ≤ length old.buffer.now → blanks ≡ replicate (10 - length (decimal n)) 32
+    → Wrote old first blanks → Wrote first second (decimal n) → Wrote second new (32 ∷ []) → WroteAll old new (field (right_in 10 (decimal n)) 32)
+unfolding right_in field
+feature_written {old} {first} n {blanks} h e w v u =
+    let c = feature_count n in
+    let b : length blanks ≡ 10 - length (decimal n) = ap length e ∙ length-replicate {A = ℕ} (10 - length (decimal n)) 32 in
+    let l = length-append (decimal n) (32 ∷ []) in
     let d = decimal_count n in
-    field_written buffer at (right_in 10 (decimal n)) 32 (omega (arith, feature_count n))
-    (after_then buffer at (replicate (10 - length (decimal n)) 32) (decimal n) (omega arith) (rw b at e) (omega arith) f)
-    (omega (arith, feature_count n))
+    let all : WroteAll old _ (blanks ++ (decimal n ++ (32 ∷ []))) = wrote_then w (wrote_then v (wrote_all u)) (omega (arith, length-append blanks (decimal n ++ (32 ∷ [])))) in
+    subst (WroteAll old _) (ap (λ (s : List ℕ). s ++ (decimal n ++ (32 ∷ []))) e ∙ sym (append_assoc (replicate (10 - length (decimal n)) 32) (decimal n) (32 ∷ []))) all
 
 -- ## The dates
 
@@ -69,10 +70,12 @@ date_fills : (t : Date) → left_in 10 (date_text t) ≡ date_text t
 unfolding left_in
 date_fills t = rw (date_count t) (append-nil (date_text t))
 
-pub date_written : (buffer : List ℕ) (at : ℕ) (t : Date) {first : List ℕ} → at + 11 ≤ length buffer → first ≡ after buffer at (date_text t)
-    → set first (at + 10) 32 ≡ after buffer at (field (left_in 10 (date_text t)) 32)
-date_written buffer at t h e =
-    rw (date_fills t) (field_written buffer at (date_text t) 32 (omega (arith, date_count t)) e (omega (arith, date_count t)))
+pub date_written : {old mid new : Writer} (day : ℕ) → day ≤ last_dated → old.at + 11 ≤ length old.buffer.now → Wrote old mid (dated_text day) → Wrote mid new (32 ∷ [])
+    → WroteAll old new (field (left_in 10 (date_text (date_of day))) 32)
+date_written {old} {mid} day d h w v =
+    let t = date_of day in
+    let w' : Wrote old mid (date_text t) = subst (Wrote old mid) (dated_is day d) w in
+    rw (date_fills t) (field_written w' v (omega (arith, date_count t)))
 
 pub last_open : (111 ∷ 112 ∷ 101 ∷ 110 ∷ 32 ∷ 32 ∷ 32 ∷ 32 ∷ 32 ∷ 32 ∷ 32 ∷ []) ≡ field (left_in 10 (last_text 0)) 32
 unfolding field left_in last_text
@@ -132,11 +135,11 @@ module _ (day : ℕ) (g : Grant) where
   abbrev state_part : List ℕ
   state_part = field (left_in 7 (state_text day (window g))) 10
 
-  first_length : length first_part ≡ 11
+  pub first_length : length first_part ≡ 11
   first_length =
       omega (arith, field_count (left_in 10 (date_text (date_of g.first))) 32, ap length (date_fills (date_of g.first)), date_count (date_of g.first))
 
-  last_length : length last_part ≡ 11
+  pub last_length : length last_part ≡ 11
   last_length = omega (arith, field_count (left_in 10 (last_text g.last)) 32, last_count g.last)
 
   state_length : length state_part ≡ 8
@@ -149,13 +152,19 @@ module _ (day : ℕ) (g : Grant) where
       omega (arith, length_four feature_part first_part last_part state_part, feature_length g.feature, first_length, last_length, state_length)
 
   -- the four fields, one after another
-  pub fields_written : (buffer : List ℕ) (at : ℕ) {a b c d : List ℕ} → at + 41 ≤ length buffer
-      → a ≡ after buffer at feature_part → b ≡ after a (at + 11) first_part → c ≡ after b (at + 22) last_part → d ≡ after c (at + 33) state_part
-      → d ≡ after buffer at (grant_line day g)
+  pub fields_written : {p q r s t : Writer} → p.at + 41 ≤ length p.buffer.now
+      → WroteAll p q feature_part → WroteAll q r first_part → WroteAll r s last_part → WroteAll s t state_part → WroteAll p t (grant_line day g)
   unfolding grant_line
-  fields_written buffer at h ea eb ec ed =
-      four_written feature_part first_part last_part state_part buffer at (omega (arith, line_count))
-      (omega (arith, feature_length g.feature)) (omega (arith, first_length)) (omega (arith, last_length)) ea eb ec ed
+  fields_written h a b c d =
+      let n = feature_length g.feature in
+      let f = first_length in
+      let l = last_length in
+      let k = state_length in
+      let cd = wrote_both c d (omega (arith, a.place, b.place, a.same_length, b.same_length)) in
+      let x = length-append last_part state_part in
+      let bcd = wrote_both b cd (omega (arith, a.place, a.same_length)) in
+      let y = length-append first_part (last_part ++ state_part) in
+      wrote_both a bcd (omega arith)
 
   -- ## Its writer
 
@@ -164,23 +173,25 @@ module _ (day : ℕ) (g : Grant) where
   unfolding undated
   in_time e = let h = or_none (ltb last_dated g.first) _ e in (ltb-false _ _ h.0, ltb-false _ _ h.1)
 
-  module _ (buffer : List ℕ) (at : ℕ) where
-    pub line_undated : undated g ≡ true → (refused 31 ≡ line_answer buffer at day g) × (buffer ≡ line_buffer buffer at day g)
-    unfolding line_answer line_buffer
-    line_undated e = (rw e, rw e)
+  module _ (w : Writer) where
+    pub line_undated : undated g ≡ true → (refused 31 ≡ line_answer w.buffer.now w.at day g) × (w.buffer.now ≡ line_buffer w.buffer.now w.at day g) × Wrote w w (dated_line day g)
+    unfolding line_answer line_buffer dated_line
+    line_undated e = (rw e, rw e, rw e (wrote_nothing w))
 
     module _ (good : undated g ≡ false) where
-      pub line_good : (written buffer at (grant_line day g) ≡ line_answer buffer at day g) × (after buffer at (grant_line day g) ≡ line_buffer buffer at day g)
-      unfolding line_answer line_buffer
-      line_good = (rw good, rw good)
+      line_good : (written w.buffer.now w.at (grant_line day g) ≡ line_answer w.buffer.now w.at day g) × (after w.buffer.now w.at (grant_line day g) ≡ line_buffer w.buffer.now w.at day g)
+          × (grant_line day g ≡ dated_line day g)
+      unfolding line_answer line_buffer dated_line
+      line_good = (rw good, rw good, rw good)
 
-      pub line_short : length buffer < at + 41 → (refused 30 ≡ line_answer buffer at day g) × (buffer ≡ line_buffer buffer at day g)
+      pub line_short : ltb (length w.buffer.now) (w.at + 41) ≡ true
+          → (refused 30 ≡ line_answer w.buffer.now w.at day g) × (w.buffer.now ≡ line_buffer w.buffer.now w.at day g) × Wrote w w (dated_line day g)
       line_short h =
-          let k = kept buffer at (grant_line day g) (omega (arith, line_count)) in
-          (k.0 ∙ line_good.0, k.1 ∙ line_good.1)
+          let k = whole_short w (grant_line day g) (sym line_count) h in
+          (k.0 ∙ line_good.0, k.1.buffer ∙ line_good.1, subst (Wrote w w) line_good.2 k.1)
 
-      pub line_written : {next : List ℕ} → at + 41 ≤ length buffer → next ≡ after buffer at (grant_line day g)
-          → (answer 41 ≡ line_answer buffer at day g) × (next ≡ line_buffer buffer at day g)
-      line_written h e =
-          let n = line_count in
-          (ap answer (sym n) ∙ sym (written_all buffer at (grant_line day g) (omega arith)) ∙ line_good.0, e ∙ line_good.1)
+      pub line_written : {new : Writer} → ltb (length w.buffer.now) (w.at + 41) ≡ false → WroteAll w new (grant_line day g)
+          → (answer 41 ≡ line_answer w.buffer.now w.at day g) × (new.buffer.now ≡ line_buffer w.buffer.now w.at day g) × Wrote w new (dated_line day g)
+      line_written {new} h e =
+          let k = whole_wrote w (grant_line day g) (sym line_count) h e in
+          (k.0 ∙ line_good.0, k.1.buffer ∙ line_good.1, subst (Wrote w new) line_good.2 k.1)

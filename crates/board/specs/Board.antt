@@ -41,6 +41,10 @@ grant_line day g =
 unfoldable pub undated : Grant → Bool
 undated g = ltb last_dated g.first || ltb last_dated g.last
 
+-- what is written of a grant: its line; nothing where it has no dates
+unfoldable pub dated_line : (day : ℕ) → Grant → List ℕ
+dated_line day g = cond (undated g) [] (grant_line day g)
+
 -- a line's writer: 31, then 30; refused, nothing is written
 unfoldable pub line_answer : List ℕ → (at day : ℕ) → Grant → Answer ℕ
 line_answer buffer at day g = cond (undated g) (refused 31) (written buffer at (grant_line day g))

@@ -4,50 +4,52 @@
 mod fields;
 
 ghost use Rattle.std.specs.Prelude.{◌≡◌, false, ◌+◌, ◌≤◌, length};
-ghost use Rattle.rules.specs.Buffers.{after};
-ghost use Rattle.number.specs.Says.{written_says};
+ghost use Rattle.rules.specs.Says.{says};
+ghost use Rattle.writer.specs.Writing.{Wrote, WroteAll};
 ghost use Rattle.grant.specs.Says.{grant_of};
-ghost use Rattle.board.specs.Board.{grant_line, undated, line_answer, line_buffer};
+ghost use Rattle.board.specs.Board.{grant_line, undated, dated_line, line_answer, line_buffer};
 
 use dates::LAST_DATED;
 use fields::{write_feature, write_first, write_last, write_state};
 use grant::Grant;
-use number::Written;
+use matching::Window;
 use rules::Refusal;
-use text::too_short;
+use writer::Writer;
 
 // How many bytes a line has.
 pub const LINE: usize = 41;
 
 // 31: the first or last day is above 36525.
+#[tactic(auto, unfolding(crate::specs::Board::undated))]
 pub fn undated(g: Grant) -> bool
     ensures { result ≡ undated (grant_of g) }
 {
     (LAST_DATED < g.first) | (LAST_DATED < g.last)
 }
 
-// Writes the four fields of a line.
-fn write_fields(buffer: &mut [u8], at: usize, day: u32, g: Grant)
-    requires { (undated (grant_of g) ≡ false) × (at + 41 ≤ length buffer.old) }
-    ensures { buffer.new ≡ after buffer.old at (grant_line day (grant_of g)) }
+// Writes the four fields of a line, for which there is room.
+fn write_fields(writer: &mut Writer<'_>, day: u32, g: Grant)
+    requires { (undated (grant_of g) ≡ false) × (writer.old.at + 41 ≤ length writer.old.buffer.now) }
+    ensures { WroteAll writer.old writer.new (grant_line day (grant_of g)) }
 {
-    write_feature(&mut *buffer, at, g.feature);
-    write_first(&mut *buffer, at + 11, g.first);
-    write_last(&mut *buffer, at + 22, g.last);
-    write_state(&mut *buffer, at + 33, day, g.first, g.last);
+    write_feature(&mut *writer, g.feature);
+    write_first(&mut *writer, g.first);
+    write_last(&mut *writer, g.last);
+    write_state(&mut *writer, day, Window::from(g));
 }
 
-// Writes a grant's line from a position on: 31, then 30; refused, none of it is written.
-pub fn write_line(buffer: &mut [u8], at: usize, day: u32, g: Grant) -> Written
-    ensures result_value { written_says result ≡ line_answer buffer.old at day (grant_of g) }
-    ensures buffer_value { buffer.new ≡ line_buffer buffer.old at day (grant_of g) }
+// Writes a grant's line, and moves on past it: 31, then 30; refused, none of it is written.
+pub fn write_line(writer: &mut Writer<'_>, day: u32, g: Grant) -> Result<usize, Refusal>
+    ensures result_value { says result ≡ line_answer writer.old.buffer.now writer.old.at day (grant_of g) }
+    ensures buffer_value { writer.new.buffer.now ≡ line_buffer writer.old.buffer.now writer.old.at day (grant_of g) }
+    ensures wrote { Wrote writer.old writer.new (dated_line day (grant_of g)) }
 {
     if undated(g) {
-        return Written::Refused(Refusal::Undated);
+        return Err(Refusal::Undated);
     }
-    if too_short(buffer.len(), at, LINE) {
-        return Written::Refused(Refusal::BufferShort);
+    if writer.too_short(LINE) {
+        return Err(Refusal::BufferShort);
     }
-    write_fields(&mut *buffer, at, day, g);
-    Written::Bytes(LINE)
+    write_fields(&mut *writer, day, g);
+    Ok(LINE)
 }

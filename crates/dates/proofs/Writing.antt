@@ -39,16 +39,22 @@ module _ (buffer : List ℕ) (at day : ℕ) where
   unfolding date_buffer
   buffer_dated h e f = rw (le-ltb _ _ h, f, e)
 
+-- a writer that writes no byte is as it was
+pub wrote_nothing : (w : Writer) → Wrote w w []
+wrote_nothing w =
+    let b = w.buffer.now in
+    by_lt (length b) (w.at + 0)
+    (λ k. record { buffer = (kept b w.at [] k).1; place = sym (place_stays b w.at [] k); same_reference = refl })
+    (λ k. record { buffer = sym (after_none b w.at (omega arith)); place = omega (arith, place_on b w.at [] k); same_reference = refl })
+
 -- nothing is written where the day is above 36525
 pub wrote_undated : (w : Writer) (day : ℕ) → last_dated < day → Wrote w w (dated_text day)
 unfolding dated_text
-wrote_undated w day h =
-    let b = w.buffer.now in
-    rw (lt-ltb _ _ h)
-    (by_lt (length b) (w.at + 0)
-    (λ k. record { buffer = (kept b w.at [] k).1; place = sym (place_stays b w.at [] k); same_reference = refl })
-    (λ k. record { buffer = sym (after_none b w.at (omega arith)); place = omega (arith, place_on b w.at [] k); same_reference = refl }))
+wrote_undated w day h = rw (lt-ltb _ _ h) (wrote_nothing w)
+
+pub dated_is : (day : ℕ) → day ≤ last_dated → dated_text day ≡ date_text (date_of day)
+unfolding dated_text
+dated_is day h = rw (le-ltb _ _ h)
 
 pub wrote_dated : (old new : Writer) (day : ℕ) {t : Date} {text : List ℕ} → day ≤ last_dated → t ≡ date_of day → text ≡ date_text t → Wrote old new text → Wrote old new (dated_text day)
-unfolding dated_text
-wrote_dated old new day h e f w = rw (le-ltb _ _ h) (subst (Wrote old new) (f ∙ ap date_text e) w)
+wrote_dated old new day h e f w = subst (Wrote old new) (f ∙ ap date_text e ∙ sym (dated_is day h)) w

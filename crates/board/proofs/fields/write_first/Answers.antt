@@ -1,9 +1,6 @@
--- `board::fields::write_first` meets its contract: a date, and then one byte.
-use mathlib.Core.Path.{sym, ◌∙◌}
-use Rattle.dates.proofs.Writing.{date_early}
+-- A date, and then one byte.
 use Rattle.board.proofs.Laws.{date_written}
 use Rattle.board.proofs.fields.write_first.Goals as goal
 
 pub returns : goal.returns
-returns c =
-    date_written _ _ _ c.requires.1 (c.write_date.ensures.buffer_value ∙ sym (date_early _ _ _ c.requires.0).1)
+returns c = date_written _ c.requires.0 c.requires.1 c.write_date.ensures.wrote c.byte.ensures.wrote
