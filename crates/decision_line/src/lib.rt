@@ -2,27 +2,32 @@
 #![tactic(auto)]
 
 ghost use Rattle.std.specs.Prelude.{◌≡◌};
-ghost use Rattle.rules.specs.Buffers.{written, after};
-ghost use Rattle.number.specs.Says.{written_says};
+ghost use Rattle.rules.specs.Buffers.{written};
+ghost use Rattle.rules.specs.Says.{says};
+ghost use Rattle.writer.specs.Writing.{Wrote};
 ghost use Rattle.dating.specs.Says.{decided_says};
 ghost use Rattle.decision_line.specs.DecisionText.{decision_text};
 
 use dating::Decided;
 use lines::write_word;
-use number::Written;
-use text::write_bytes;
+use rules::Refusal;
+use writer::Writer;
 
-// Writes a decision's line, at most 17 bytes, from a position on: 30, and none of it, where the buffer is too short.
-pub fn write_decision(buffer: &mut [u8], at: usize, decided: Decided) -> Written
-    ensures result_value { written_says result ≡ written buffer.old at (decision_text (decided_says decided)) }
-    ensures buffer_value { buffer.new ≡ after buffer.old at (decision_text (decided_says decided)) }
+// Writes a decision's line, at most 17 bytes, and moves on past it: 30, and none of it, where the buffer is too short.
+#[tactic(auto, unfolding(crate::specs::DecisionText::decision_text))]
+pub fn write_decision(
+    writer: &mut Writer<'_>,
+    decided: Result<Decided, Refusal>,
+) -> Result<usize, Refusal>
+    ensures result_value { says result ≡ written writer.old.buffer.now writer.old.at (decision_text (decided_says decided)) }
+    ensures wrote { Wrote writer.old writer.new (decision_text (decided_says decided)) }
 {
     match decided {
-        Decided::OnOpen => write_bytes(buffer, at, b"on open\n"),
-        Decided::OnUntil(day) => write_word(buffer, at, b"on ", day),
-        Decided::Ended(day) => write_word(buffer, at, b"ended ", day),
-        Decided::Ahead(day) => write_word(buffer, at, b"ahead ", day),
-        Decided::Never => write_bytes(buffer, at, b"never\n"),
-        Decided::Refused(why) => write_word(buffer, at, b"no ", why.number()),
+        Ok(Decided::OnOpen) => writer.bytes(b"on open\n"),
+        Ok(Decided::OnUntil(day)) => write_word(writer, b"on ", day),
+        Ok(Decided::Ended(day)) => write_word(writer, b"ended ", day),
+        Ok(Decided::Ahead(day)) => write_word(writer, b"ahead ", day),
+        Ok(Decided::Never) => writer.bytes(b"never\n"),
+        Err(why) => write_word(writer, b"no ", why.number()),
     }
 }

@@ -63,6 +63,17 @@ pub item_refused : (bytes : List ℕ) (at : ℕ) {n : ℕ} → at < length bytes
 item_refused bytes at {n} h e =
     items_next bytes at h ∙ ap (λ a. item_then a (items_at bytes)) e ∙ ap (λ rest. refused n ∷ rest) (sym (items_done bytes (length bytes) (omega arith)))
 
+-- no more items than bytes
+pub items_count : (n : ℕ) (bytes : List ℕ) (at : ℕ) → length (items_from n bytes at) ≤ n
+unfolding items_from
+items_count zero bytes at = omega arith
+items_count (suc n) bytes at = go (leb (length bytes) at) (grant_at bytes at) (λ next. items_count n bytes next)
+  where
+    go : (b : Bool) (a : Answer GrantRead) → ((next : ℕ) → length (items_from n bytes next) ≤ n) → length (cond b [] (item_then a (items_from n bytes))) ≤ suc n
+    go true a h = omega arith
+    go false (answer r) h = omega (arith, h r.next)
+    go false (refused k) h = omega arith
+
 -- ## The list
 
 -- a list of items, each of which is judged
