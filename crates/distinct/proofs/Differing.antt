@@ -1,11 +1,12 @@
 -- Ids that differ two by two, by their places.
-use mathlib.Core.Path.{◌≡◌, refl}
+use mathlib.Core.Path.{◌≡◌, refl, sym, ◌∙◌}
 use mathlib.Core.Bool.{true, false, not, and-false}
 use mathlib.Core.List.{List, [], ◌∷◌}
 use Prim.Native.Nat.{ℕ, zero, suc, ◌<◌}
 use native.Mathlib.Omega.{arith}
 use lib.Dec.{eqb}
-use lib.ListN.{length, get_or}
+use lib.ListN.{length, get_or, take}
+use lib.Seq.{length-take-le, get_or-take}
 use borrow.Author.Tests.{eq-eqb, ne_eqb}
 use Rattle.distinct.specs.Distinct.{none_is, all_differ}
 
@@ -36,3 +37,9 @@ two_same [] i j h k e = absurd (omega arith)
 two_same (x ∷ s) i zero h k e = absurd (omega arith)
 two_same (x ∷ s) zero (suc j) h k e = rw (some_is x s j (omega arith) e)
 two_same (x ∷ s) (suc i) (suc j) h k e = rw (two_same s i j (omega arith) (omega arith) e) (and-false (none_is x s))
+
+-- an id that stands among those above it
+pub above_same : (s : List ℕ) (i k : ℕ) → i < length s → k < length (take i s) → get_or (take i s) k 0 ≡ get_or s i 0 → all_differ s ≡ false
+above_same s i k h l e =
+    let m : k < i = omega (arith, length-take-le i s (omega arith)) in
+    two_same s k i m h (sym (get_or-take i s k 0 m) ∙ e)

@@ -6,12 +6,6 @@ ghost use Rattle.distinct.specs.Inside.Chains.{slots, slot_of, Chained, InChain}
 
 use rules::ROW_CAPACITY;
 
-fn wide(x: u16) -> usize
-    ensures { result ≡ x }
-{
-    x as usize
-}
-
 // How many slots there are.
 const SLOTS: usize = 256;
 
@@ -28,13 +22,14 @@ fn in_chain(ids: &[u32], next: &[u16; ROW_CAPACITY], count: usize, link: usize, 
     requires { (count ≤ length ids.now) × (count ≤ row_capacity) × Chained ids.now next.now count link x }
     ensures { InChain ids.now count link x result }
 {
+    // The walk goes by links, and not by a count.
     let mut at = link;
     while 0 < at {
         let row = at - 1;
         if ids[row] == x {
             return true;
         }
-        at = wide(next[row]);
+        at = usize::from(next[row]);
     }
     false
 }
@@ -46,17 +41,14 @@ pub(crate) fn ids_chained(ids: &[u32]) -> bool
 {
     let mut head = [0u16; SLOTS];
     let mut next = [0u16; ROW_CAPACITY];
-    let mut i = 0;
-    while i < ids.len() {
-        let x = ids[i];
-        let s = slot(x);
+    for (i, x) in ids.iter().enumerate() {
+        let s = slot(*x);
         let link = head[s];
-        if in_chain(ids, &next, i, wide(link), x) {
+        if in_chain(ids, &next, i, usize::from(link), *x) {
             return false;
         }
         next[i] = link;
         head[s] = (i + 1) as u16;
-        i += 1;
     }
     true
 }
