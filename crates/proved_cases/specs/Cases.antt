@@ -16,7 +16,8 @@ use Rattle.ledger.specs.Ledger.{Ledger, fresh_ledger, afresh_l, afresh_r}
 use Rattle.ledger.specs.Calls.{Call, Reply, engine_start, engine_replies, engine_end, ledger_replies, ledger_end, exploded_in}
 use Rattle.ledger.specs.Decisions.{GroupGrant, ledger_decided}
 use Rattle.table.specs.Columns.{Table, rows_in}
-use Rattle.calendar.specs.Calendar.{Date, date_of}
+use Rattle.calendar.specs.declared.Date.{Date}
+use Rattle.calendar.specs.Calendar.{date_of}
 use Rattle.page.specs.Page.{page_of}
 use Rattle.small.specs.Small.{list_bytes}
 use Rattle.replay.specs.Replay.{Replay, replay_of, blank, grow_text}
