@@ -9,7 +9,8 @@ use Rattle.rules.specs.Buffers.{after}
 use Rattle.rules.proofs.Buffers.{written_all, after_none, after_same, after_then}
 use Rattle.table.specs.Columns.{Columns}
 use Rattle.table.proofs.Rows.{rows_length}
-use Rattle.request_log.specs.Log.{Part, part_at, bytes_in, requests_from, requests_at}
+use Rattle.request_log.specs.declared.Part.{Part}
+use Rattle.request_log.specs.Log.{part_at, bytes_in, requests_from, requests_at}
 use Rattle.request_log.proofs.Laws.{part_in, stop, bad, goes_on}
 use Rattle.lines.specs.Lines.{line_text, table_text, table_answer, table_buffer}
 use Rattle.lines.proofs.Laws.{line_most, table_most, table_good}

@@ -1,4 +1,5 @@
 -- The whole of a log: the room, the fresh pair, and then the requests.
+use Rattle.std.specs.Prelude.{Option, Some, None}
 use mathlib.Core.Path.{◌≡◌, ap, sym, ◌∙◌}
 use mathlib.Core.Bool.{◌||◌}
 use mathlib.Core.List.{List}
@@ -10,17 +11,17 @@ use borrow.Author.Tests.{le-leb, lt-leb}
 use Rattle.rules.specs.Answers.{Answer, answer, refused}
 use Rattle.rules.specs.Buffers.{after}
 use Rattle.rules.proofs.Answers.{same_answer, peel, then_answer, then_refused}
-use Rattle.table.specs.Columns.{Row, Columns, put, counted, afterwards}
+use Rattle.table.specs.declared.Row.{Row}
+use Rattle.table.specs.Columns.{Columns, put, counted, afterwards}
 use Rattle.table.specs.Check.{lengths_bad}
 use Rattle.fresh.specs.Fresh.{fresh_rows}
 use Rattle.table.proofs.Lengths.{lengths_good, good_count, put_length, put_lengths}
-use Rattle.request_log.specs.Log.{Pair, pair_of}
+use Rattle.request_log.specs.declared.Pair.{Pair}
+use Rattle.request_log.specs.Log.{pair_of}
 use Rattle.request_log.proofs.Laws.{pair_in}
 use Rattle.lines.specs.Lines.{line_text}
 use Rattle.request_log.specs.Room.{grow_room}
 use Rattle.replay.specs.Replay.{Replay, replay_of, text_of, columns_after, grow_text, grow_columns, grow_answer, grow_buffer, grow_table}
-use Rattle.replay.specs.declared.Grown.{Grown}
-use Rattle.replay.specs.declared.Grown.TheVariants.{Text, NoRoom}
 use Rattle.replay.specs.Inside.Carrying.{carried}
 use Rattle.replay.proofs.Running.{Held, make_held}
 
@@ -64,27 +65,27 @@ module _ (c : Columns) (log : List ℕ) where
 -- ## The answer, the buffer and the columns
 
 module _ (c : Columns) (log buffer : List ℕ) where
-  abbrev pub Grows : Grown → List ℕ → Columns → Type 0
+  abbrev pub Grows : Option ℕ → List ℕ → Columns → Type 0
   Grows w text d = (w ≡ grow_answer c log buffer) × ((text ≡ grow_buffer c log buffer) × (d ≡ grow_table c log buffer))
 
   -- too short a buffer
-  pub no_room : length buffer < grow_room (length log) → Grows NoRoom buffer c
+  pub no_room : length buffer < grow_room (length log) → Grows None buffer c
   unfolding grow_answer grow_buffer grow_table
   no_room h = (rw (lt-leb _ _ h), (rw (lt-leb _ _ h), rw (lt-leb _ _ h)))
 
   module _ (room : grow_room (length log) ≤ length buffer) where
-    grows : {n : ℕ} {text : List ℕ} {d : Columns} → n ≡ length (grow_text c log) → text ≡ after buffer 0 (grow_text c log) → d ≡ grow_columns c log → Grows (Text n) text d
+    grows : {n : ℕ} {text : List ℕ} {d : Columns} → n ≡ length (grow_text c log) → text ≡ after buffer 0 (grow_text c log) → d ≡ grow_columns c log → Grows (Some n) text d
     unfolding grow_answer grow_buffer grow_table
-    grows n t d = (rw (le-leb _ _ room) (ap Text n), (rw (le-leb _ _ room) t, rw (le-leb _ _ room) d))
+    grows n t d = (rw (le-leb _ _ room) (ap Some n), (rw (le-leb _ _ room) t, rw (le-leb _ _ room) d))
 
     -- a bad fresh pair
     pub grows_bad : {m n : ℕ} {text : List ℕ} {d : Columns} → replay_of c log ≡ refused m → n ≡ 0 + length (line_text (refused m))
-        → text ≡ after buffer 0 (line_text (refused m)) → d ≡ c → Grows (Text n) text d
+        → text ≡ after buffer 0 (line_text (refused m)) → d ≡ c → Grows (Some n) text d
     unfolding text_of columns_after
     grows_bad e k t s = grows (rw e (omega (arith, k))) (rw e t) (rw e s)
 
     -- the requests, and then the table
     pub grows_good : {r : Replay} {n : ℕ} {text : List ℕ} {d : Columns} → replay_of c log ≡ answer r → n ≡ length r.text → text ≡ after buffer 0 r.text
-        → d ≡ r.table.columns → Grows (Text n) text d
+        → d ≡ r.table.columns → Grows (Some n) text d
     unfolding text_of columns_after
     grows_good e k t s = grows (rw e k) (rw e t) (rw e s)

@@ -1,4 +1,5 @@
 -- `grow_room` is enough: the text of a log has at most 14 bytes for each byte of the log, and 16384 for the table.
+use Rattle.std.specs.Prelude.{Option, Some, None}
 use mathlib.Core.Path.{◌≡◌, refl, ap, sym, ◌∙◌}
 use mathlib.Core.Bool.{false}
 use mathlib.Core.List.{List}
@@ -23,8 +24,6 @@ use Rattle.refine.specs.Refine.{answer_to, table_after}
 use Rattle.request_log.specs.Room.{grow_room, line_room, table_room}
 use Rattle.replay.specs.Replay.{Replay, replay_from, text_of, grow_text, grow_answer, grow_buffer}
 use Rattle.replay.specs.Inside.Carrying.{carried}
-use Rattle.replay.specs.declared.Grown.{Grown}
-use Rattle.replay.specs.declared.Grown.TheVariants.{Text, NoRoom}
 use Rattle.replay.proofs.Running.{Held, held_within, held_after, replay_none, replay_bad, replay_more}
 use Rattle.replay.proofs.Growing.{pair_bad, fresh_bad, fresh_good}
 
@@ -74,21 +73,21 @@ grow_room_lem c log =
     (λ n e. rw (pair_bad c log refl e) (omega (arith, line_most (refused n))))
 
 -- a buffer with the room holds the text at its start; the answer is never that there is none
-module _ (c : Columns) (log buffer : List ℕ) {a : Grown} (room : grow_room (length log) ≤ length buffer) (said : a ≡ grow_answer c log buffer) where
-  pub grown_text : {n : ℕ} {new : List ℕ} → a ≡ Text n → new ≡ grow_buffer c log buffer → (n ≤ length new) × (take n new ≡ grow_text c log)
+module _ (c : Columns) (log buffer : List ℕ) {a : Option ℕ} (room : grow_room (length log) ≤ length buffer) (said : a ≡ grow_answer c log buffer) where
+  pub grown_text : {n : ℕ} {new : List ℕ} → a ≡ Some n → new ≡ grow_buffer c log buffer → (n ≤ length new) × (take n new ≡ grow_text c log)
   unfolding grow_answer grow_buffer
   grown_text {n} {new} e wrote =
       let most = grow_room_lem c log in
-      let k : Text (length (grow_text c log)) ≡ Text n = sym (rw (le-leb _ _ room) at said) ∙ e in
+      let k : Some (length (grow_text c log)) ≡ Some n = sym (rw (le-leb _ _ room) at said) ∙ e in
       let j : length (grow_text c log) ≡ n = cc in
       let f : new ≡ after buffer 0 (grow_text c log) = rw (le-leb _ _ room) at wrote in
       let same = ap length f ∙ after_same buffer 0 (grow_text c log) (omega arith) in
       (omega arith, ap (λ i. take i new) (sym j) ∙ ap (take (length (grow_text c log))) f ∙ after_start buffer (grow_text c log) (omega arith))
 
-  pub grown_room : {C : Type 0} → a ≡ NoRoom → C
+  pub grown_room : {C : Type 0} → a ≡ None → C
   unfolding grow_answer
   grown_room e =
-      let k : Text (length (grow_text c log)) ≡ NoRoom = sym (rw (le-leb _ _ room) at said) ∙ e in
+      let k : Some (length (grow_text c log)) ≡ None = sym (rw (le-leb _ _ room) at said) ∙ e in
       let z : ◌≡◌ {A = ℕ} 0 1 = cc in
       let f : ⊥ = omega arith in
       absurd f

@@ -1,18 +1,21 @@
 -- The table after a request, and the text of requests one after another.
-use mathlib.Core.Path.{◌≡◌, refl, ap, sym, ◌∙◌}
+use Rattle.std.specs.Prelude.{Result, Ok, Err}
+use Rattle.std.specs.Result.{result_unwrap_or}
+use mathlib.Core.Path.{◌≡◌, refl, ap, sym}
 use mathlib.Core.Bool.{false}
 use mathlib.Core.List.{List, ◌++◌, flat_map, append_assoc}
-use Prim.Native.Nat.{ℕ, ◌+◌, ◌≤◌}
+use Prim.Native.Nat.{ℕ, ◌≤◌}
 use native.Mathlib.Omega.{arith}
 use lib.ListN.{length}
+use Rattle.rules.specs.Says.{says}
+use Rattle.rules.specs.declared.Refusal.{Refusal}
 use Rattle.rules.specs.Answers.{Answer, answer, refused, or_else}
-use Rattle.rules.specs.Buffers.{written, after}
 use Rattle.rules.specs.Limits.{most_rows}
 use Rattle.rules.proofs.Answers.{same_answer, never_refused}
-use Rattle.rules.proofs.Buffers.{written_all}
 use Rattle.rules.proofs.Bools.{or_none}
 use Rattle.request.proofs.ReadLaws.{request_read}
-use Rattle.table.specs.Columns.{Row, Columns, put, counted, afterwards}
+use Rattle.table.specs.declared.Row.{Row}
+use Rattle.table.specs.Columns.{Columns, put, counted, afterwards}
 use Rattle.table.specs.Check.{lengths_bad, count_bad}
 use Rattle.table.proofs.Lengths.{count_good, good_count, put_length, put_lengths}
 use Rattle.table.proofs.Rows.{rows_length}
@@ -20,11 +23,10 @@ use Rattle.refine.specs.Refine.{refined}
 use Rattle.promises.proofs.Refinement.{promises}
 use Rattle.request_log.specs.Log.{Requests, no_more, one_more}
 use Rattle.lines.specs.Lines.{line_text, table_text, columns_bad}
-use Rattle.lines.proofs.Laws.{columns_good, line_most}
+use Rattle.lines.proofs.Laws.{columns_good}
 use Rattle.table.specs.Columns.{Table, rows_in}
 use Rattle.refine.specs.Refine.{answer_to, table_after}
 use Rattle.replay.specs.Run.{answers_to, table_end}
-use Rattle.request_log.specs.Room.{line_room}
 use Rattle.replay.specs.Replay.{Replay, end_text, replay_from}
 use Rattle.replay.specs.Inside.Carrying.{Countable}
 
@@ -68,23 +70,17 @@ answer_countable t request h = go (refined t.columns t.count request) (λ s e. r
     go (answer s) k = omega (arith, k s refl, held_within t h)
     go (refused n) k = tt
 
--- ## A line
+-- ## An answer
 
 -- a count that is printed
 pub countable : (a : Answer ℕ) {n : ℕ} → Countable a → a ≡ answer n → n ≤ most_rows
 countable (answer m) h e = omega (arith, same_answer e)
 countable (refused m) h e = never_refused e
 
--- a line that was written where there is room for it
-module _ (text : List ℕ) (at : ℕ) (a : Answer ℕ) {b w : Answer ℕ} {n : ℕ} (room : at + line_room ≤ length text) (same : b ≡ a)
-    (wrote : w ≡ written text at (line_text b)) (bytes : n ≡ or_else w 0) where
-  pub line_bytes : n ≡ length (line_text a)
-  line_bytes =
-      let m = line_most b in
-      bytes ∙ ap (λ (x : Answer ℕ). or_else x 0) (wrote ∙ written_all text at (line_text b) (omega arith)) ∙ ap (λ x. length (line_text x)) same
-
-  pub line_written : {next : List ℕ} → next ≡ after text at (line_text b) → (at + n ≡ at + length (line_text a)) × (next ≡ after text at (line_text a))
-  line_written e = (ap (λ k. at + k) line_bytes, e ∙ ap (λ x. after text at (line_text x)) same)
+-- what a call answers, or something else where it is refused
+pub said_or : (a : Result ℕ Refusal) (d : ℕ) → result_unwrap_or a d ≡ or_else (says a) d
+said_or (Ok n) d = refl
+said_or (Err why) d = refl
 
 -- ## The replay of requests
 

@@ -1,5 +1,5 @@
 -- What a log leads to (RULES.md, 14.1): the table after it, and the text that is printed.
-use Rattle.std.specs.Prelude.{ℕ, cond, leb, length, replicate}
+use Rattle.std.specs.Prelude.{ℕ, cond, leb, length, replicate, Option, Some, None}
 use mathlib.Core.List.{List, [], ◌++◌, flat_map}
 use Rattle.rules.specs.Answers.{Answer, answer, refused, then}
 use Rattle.rules.specs.Buffers.{after}
@@ -10,8 +10,6 @@ use Rattle.request_log.specs.Log.{pair_of, Requests, requests_at}
 use Rattle.request_log.specs.Room.{grow_room}
 use Rattle.lines.specs.Lines.{line_text, table_text}
 use Rattle.replay.specs.Run.{answers_to, table_end}
-use Rattle.replay.specs.declared.Grown.{Grown}
-use Rattle.replay.specs.declared.Grown.TheVariants.{Text, NoRoom}
 
 pub record Replay : Type 0 where
   pub table : Table
@@ -57,8 +55,8 @@ abbrev pub grow_columns : Columns → List ℕ → Columns
 grow_columns c log = columns_after (replay_of c log) c
 
 -- the text with its byte count; no room where the buffer is shorter than that, and then nothing is carried out or written
-unfoldable pub grow_answer : Columns → List ℕ → List ℕ → Grown
-grow_answer c log buffer = cond (leb (grow_room (length log)) (length buffer)) (Text (length (grow_text c log))) NoRoom
+unfoldable pub grow_answer : Columns → List ℕ → List ℕ → Option ℕ
+grow_answer c log buffer = cond (leb (grow_room (length log)) (length buffer)) (Some (length (grow_text c log))) None
 
 unfoldable pub grow_buffer : Columns → List ℕ → List ℕ → List ℕ
 grow_buffer c log buffer = cond (leb (grow_room (length log)) (length buffer)) (after buffer 0 (grow_text c log)) buffer
