@@ -4,22 +4,9 @@ use mathlib.Core.List.{List, [], ◌∷◌, ◌++◌, flat_map}
 use Prim.Native.Nat.{ℕ, ◌+◌, ◌≤◌}
 use native.Mathlib.Omega.{arith}
 use lib.ListN.{length, length-append}
-use Rattle.std.specs.Prelude.{Result, Ok, Err}
-use Rattle.rules.specs.Buffers.{written, after}
-use Rattle.rules.specs.Says.{says}
-use Rattle.rules.specs.declared.Refusal.{Refusal}
-use Rattle.rules.proofs.Answers.{same_answer, never_refused}
-use Rattle.rules.proofs.Buffers.{written_all, after_same, after_none, after_then}
+use Rattle.rules.specs.Buffers.{after}
+use Rattle.rules.proofs.Buffers.{after_same, after_none, after_then}
 use Rattle.table.specs.declared.Row.{Row}
-
--- a writer that has room for its bytes writes them
-pub room_ok : (r : Result ℕ Refusal) (buffer : List ℕ) (at : ℕ) (bytes : List ℕ) → says r ≡ written buffer at bytes → at + length bytes ≤ length buffer → r ≡ Ok (length bytes)
-room_ok (Ok n) buffer at bytes e h = let f : n ≡ length bytes = same_answer (e ∙ written_all buffer at bytes h) in ap Ok f
-room_ok (Err why) buffer at bytes e h = never_refused (e ∙ written_all buffer at bytes h)
-
-pub room_count : {r : Result ℕ Refusal} {n : ℕ} (buffer : List ℕ) (at : ℕ) (bytes : List ℕ) → says r ≡ written buffer at bytes → at + length bytes ≤ length buffer → r ≡ Ok n
-    → n ≡ length bytes
-room_count {r} {n} buffer at bytes e h k = let f = room_ok r buffer at bytes e h in cc
 
 -- the rest of the bytes has room from p on in a buffer, and written there it makes the buffer that all of them written into the old one make
 pub record Rest (old : List ℕ) (at : ℕ) (all buffer : List ℕ) (p : ℕ) (rest : List ℕ) : Type 0 where
