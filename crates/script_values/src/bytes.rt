@@ -1,39 +1,23 @@
 // The bytes that a script's line gives.
 ghost use Rattle.std.specs.Prelude.{◌≡◌};
-ghost use Rattle.script_values.specs.Bytes.{no_bytes, byte_put, number_put, entry_put, bytes_until, item_put, bytes_of_line, bytes_in};
+ghost use Rattle.script_values.specs.Bytes.{number_put, entry_put, bytes_until, item_put, bytes_of_line};
 
+use crate::filled::Filled;
 use crate::narrow;
 use number::write_number;
 use script::{Item, Items};
 use writer::Writer;
 
-// Most bytes of a line.
-const ROOM: usize = 65536;
+// At most 65536 bytes.
+pub type Bytes = Filled<u8, 65536>;
 
-// So many bytes of a buffer.
-#[derive(Clone, Copy)]
-pub struct Bytes {
-    buffer: [u8; ROOM],
-    count: usize,
-}
-
-impl Bytes {
-    #[tactic(auto, unfolding(crate::specs::Bytes::no_bytes))]
-    fn new() -> Bytes
-        ensures { result ≡ no_bytes }
-    {
-        Bytes {
-            buffer: [0; ROOM],
-            count: 0,
-        }
-    }
-
+impl Filled<u8, 65536> {
     // The bytes that a line gives.
     #[tactic(auto, unfolding(crate::specs::Bytes::bytes_from))]
     pub fn of(line: &[u8]) -> Bytes
         ensures { result ≡ bytes_of_line line.now }
     {
-        let mut bytes = Bytes::new();
+        let mut bytes = Filled::none(0);
         let mut from = 0;
         for item in Items::new(line) {
             match item {
@@ -43,7 +27,7 @@ impl Bytes {
                     byte,
                 } => bytes.put(from, section, value, byte),
                 Item::Word(Some(b'u')) => {}
-                Item::Word(_) => from = bytes.count,
+                Item::Word(_) => from = bytes.len,
             }
         }
         bytes
@@ -56,20 +40,11 @@ impl Bytes {
         ensures { self.new ≡ item_put section value byte from self.old }
     {
         match section {
-            Some(b'b') => self.put_byte(byte),
+            Some(b'b') => self.push(byte),
             Some(b'n') => self.put_number(value),
             Some(b'e') => self.put_entry(value),
             Some(b'u') => self.put_until(from, value),
             _ => {}
-        }
-    }
-
-    fn put_byte(&mut self, byte: u8)
-        ensures { self.new ≡ byte_put byte self.old }
-    {
-        if self.count < ROOM {
-            self.buffer[self.count] = byte;
-            self.count += 1;
         }
     }
 
@@ -78,9 +53,9 @@ impl Bytes {
     fn put_number(&mut self, value: u64)
         ensures { self.new ≡ number_put value self.old }
     {
-        let mut writer = Writer::new(&mut self.buffer, self.count);
+        let mut writer = Writer::new(&mut self.items, self.len);
         if let Ok(n) = write_number(&mut writer, narrow(value)) {
-            self.count += n;
+            self.len += n;
         }
     }
 
@@ -98,17 +73,11 @@ impl Bytes {
     fn put_until(&mut self, from: usize, end: u64)
         ensures { self.new ≡ bytes_until end from self.old }
     {
-        let count = self.count;
-        if from < count {
-            for n in count..end.min(65536) as usize {
-                self.put_byte(self.buffer[n - (count - from)]);
+        let len = self.len;
+        if from < len {
+            for n in len..end.min(65536) as usize {
+                self.push(self.items[n - (len - from)]);
             }
         }
-    }
-
-    pub fn as_slice(&self) -> &[u8]
-        ensures { result.now ≡ bytes_in self.now }
-    {
-        &self.buffer[..self.count.min(ROOM)]
     }
 }

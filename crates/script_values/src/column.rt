@@ -1,37 +1,21 @@
 // A column, whose rows a script's line gives.
 ghost use Rattle.std.specs.Prelude.{◌≡◌};
-ghost use Rattle.script_values.specs.Column.{no_rows, row_put, column_of, columns_of, rows_in};
+ghost use Rattle.script_values.specs.Column.{column_of, columns_of};
 
+use crate::filled::Filled;
 use crate::narrow;
 use script::{Item, Items};
 
-// Most rows of a column.
-const ROWS: usize = 257;
+// At most 257 rows.
+pub type Column = Filled<u32, 257>;
 
-// So many rows of a column. Their number has no ghost field: of a struct that has one no part can be lent to write into.
-#[derive(Clone, Copy)]
-pub struct Column {
-    rows: [u32; ROWS],
-    len: usize,
-}
-
-impl Column {
-    #[tactic(auto, unfolding(crate::specs::Column::no_rows))]
-    fn new() -> Column
-        ensures { result ≡ no_rows }
-    {
-        Column {
-            rows: [0; ROWS],
-            len: 0,
-        }
-    }
-
+impl Filled<u32, 257> {
     // The rows that follow a column's name on a line.
     #[tactic(auto, unfolding(crate::specs::Column::column_from))]
     pub fn of(line: &[u8], name: u8) -> Column
         ensures { result ≡ column_of line.now name }
     {
-        let mut column = Column::new();
+        let mut column = Filled::none(0);
         for item in Items::new(line) {
             match item {
                 Item::Number {
@@ -43,29 +27,6 @@ impl Column {
             }
         }
         column
-    }
-
-    // A row more, where there is room.
-    fn push(&mut self, row: u32)
-        ensures { self.new ≡ row_put row self.old }
-    {
-        if self.len < ROWS {
-            self.rows[self.len] = row;
-            self.len += 1;
-        }
-    }
-
-    pub fn as_slice(&self) -> &[u32]
-        ensures { result.now ≡ rows_in self.now }
-    {
-        &self.rows[..self.len.min(ROWS)]
-    }
-
-    // The rows to write into.
-    pub fn as_mut_slice(&mut self) -> &mut [u32]
-        ensures { result.now ≡ rows_in self.old }
-    {
-        &mut self.rows[..self.len.min(ROWS)]
     }
 }
 

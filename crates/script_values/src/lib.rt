@@ -6,9 +6,11 @@ ghost use Rattle.script_values.specs.Values.{narrowed, room_of};
 
 mod bytes;
 mod column;
+mod filled;
 
 pub use bytes::Bytes;
 pub use column::{Column, Columns};
+pub use filled::Filled;
 
 // A number in 32 bits: the greatest there is where it has more.
 #[tactic(auto, unfolding(crate::specs::Values::narrowed))]
