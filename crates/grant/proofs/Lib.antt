@@ -1,4 +1,3 @@
 pub mod Listing
-pub mod Folding
 pub mod RoundTrip
 pub mod Items

@@ -1,54 +1,27 @@
-use mathlib.Core.Path.{ap, sym, ◌∙◌}
+use mathlib.Core.Path.{sym, ◌∙◌}
 use native.Mathlib.Omega.{arith}
-use Rattle.grant.specs.Says.{grant_says}
-use Rattle.grant.proofs.Listing.{grant_stands}
-use Rattle.page.proofs.Listing.{dated_refused}
-use Rattle.page.proofs.Writing.{begins, ends, goes_on, not_refused, in_time, without, fits, with_line}
+use Rattle.page.proofs.Writing.{begins, ends, stops, not_refused, without, with_line}
 use Rattle.page.proofs.write_lines.Goals as goal
 
-pub loop-p-init : goal.loop-p-init
-loop-p-init c = begins _ _ _ _ _ _ c.requires
+pub loop-item-init : goal.loop-item-init
+loop-item-init c = rw (c.into_iter-item-iterator.ensures.into_iter_gives, c.new-item-items.ensures) (begins _ _ _ _ _ _ c.requires)
 
-pub shape_of-buffer-in-Refused : goal.shape_of-buffer-in-Refused
-shape_of-buffer-in-Refused c = c.loop-p.invariant.same
+pub overflow_add-end : goal.overflow_add-end
+overflow_add-end c = omega (arith, c.requires.room)
 
-pub returns-in-Refused : goal.returns-in-Refused
-returns-in-Refused c =
-    not_refused _ _ _ _ _ _ c.loop-p.invariant (goes_on _ _ _ _ _ _ c.loop-p.invariant c.loop-p-test.true) (sym (dated_refused _ _ (sym c.grant_at.ensures ∙ ap grant_says c.in-Refused.is)))
+pub returns-then-writer-end : goal.returns-then-writer-end
+returns-then-writer-end c = stops _ _ _ _ _ _ c.loop-item.invariant c.if-writer-end.true
 
-pub overflow_add-p : goal.overflow_add-p
-overflow_add-p c =
-    let m = goes_on _ _ _ _ _ _ c.loop-p.invariant c.loop-p-test.true in
-    let e = in_time _ _ _ _ _ _ c.loop-p.invariant m (sym c.grant_at.ensures ∙ ap grant_says c.in-Grant.is) in
-    let y = sym (rw (c.new.ensures, c.new-in-Grant.ensures) at c.covers.ensures) ∙ c.if-covers.true in
-    omega (arith, c.ranges.whole.fits, fits _ _ _ _ _ _ c.loop-p.invariant m e y)
+pub returns-in-Err : goal.returns-in-Err
+returns-in-Err c = not_refused _ _ _ _ _ _ c.loop-item.invariant (rw c.in-Err.is at c.in-Some.ensures.steps)
 
-pub loop-p-smaller-then-covers : goal.loop-p-smaller-then-covers
-loop-p-smaller-then-covers c =
-    let s = grant_stands _ _ (sym c.grant_at.ensures ∙ ap grant_says c.in-Grant.is) in
-    omega (arith, s.starts, s.ends)
+pub loop-item-preserved-then-covered_by : goal.loop-item-preserved-then-covered_by
+loop-item-preserved-then-covered_by c =
+    with_line _ _ _ _ _ _ c.loop-item.invariant (rw c.in-Ok.is at c.in-Some.ensures.steps) (sym c.covered_by.ensures ∙ c.if-covered_by.true) c.write_line.ensures.wrote
 
-pub loop-p-preserved-then-covers : goal.loop-p-preserved-then-covers
-loop-p-preserved-then-covers c =
-    let m = goes_on _ _ _ _ _ _ c.loop-p.invariant c.loop-p-test.true in
-    let e = in_time _ _ _ _ _ _ c.loop-p.invariant m (sym c.grant_at.ensures ∙ ap grant_says c.in-Grant.is) in
-    let y = sym (rw (c.new.ensures, c.new-in-Grant.ensures) at c.covers.ensures) ∙ c.if-covers.true in
-    with_line _ _ _ _ _ _ c.loop-p.invariant m e y c.write_line.ensures.buffer_value
-
-pub loop-p-smaller : goal.loop-p-smaller
-loop-p-smaller c =
-    let s = grant_stands _ _ (sym c.grant_at.ensures ∙ ap grant_says c.in-Grant.is) in
-    omega (arith, s.starts, s.ends)
-
-pub loop-p-preserved : goal.loop-p-preserved
-loop-p-preserved c =
-    let m = goes_on _ _ _ _ _ _ c.loop-p.invariant c.loop-p-test.true in
-    let e = in_time _ _ _ _ _ _ c.loop-p.invariant m (sym c.grant_at.ensures ∙ ap grant_says c.in-Grant.is) in
-    let n = sym (rw (c.new.ensures, c.new-in-Grant.ensures) at c.covers.ensures) ∙ c.if-covers.false in
-    without _ _ _ _ _ _ c.loop-p.invariant m e n
-
-pub shape_of-buffer : goal.shape_of-buffer
-shape_of-buffer c = c.loop-p.invariant.same
+pub loop-item-preserved : goal.loop-item-preserved
+loop-item-preserved c =
+    without _ _ _ _ _ _ c.loop-item.invariant (rw c.in-Ok.is at c.in-Some.ensures.steps) (sym c.covered_by.ensures ∙ c.if-covered_by.false)
 
 pub returns : goal.returns
-returns c = ends _ _ _ _ _ _ c.loop-p.invariant c.loop-p-test.false
+returns c = ends _ _ _ _ _ _ c.loop-item.invariant c.in-None.ensures.steps.0
