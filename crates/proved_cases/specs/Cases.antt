@@ -4,9 +4,11 @@ use Prim.Native.String.{String}
 use mathlib.Core.List.{List, [], ◌∷◌, ◌++◌, map, flatten}
 use Rattle.rules.specs.Answers.{Answer, answer, refused, then}
 use Rattle.rules.specs.Limits.{most_rows}
-use Rattle.number.specs.Number.{Number, found, number_at, bytes_of}
+use Rattle.number.specs.declared.Number.{Number}
+use Rattle.number.specs.Number.{found, number_at, bytes_of}
 use Rattle.request.specs.Entries.{quota_of}
-use Rattle.table.specs.Columns.{Row, rows, l_of, r_of, counted, afterwards}
+use Rattle.table.specs.declared.Row.{Row}
+use Rattle.table.specs.Columns.{rows, l_of, r_of, counted, afterwards}
 use Rattle.fresh.specs.Fresh.{fresh_rows}
 use Rattle.grant.specs.Grant.{Grant, grant, grants_bytes}
 use Rattle.renewals.specs.Dating.{Decision}

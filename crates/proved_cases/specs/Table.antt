@@ -2,8 +2,9 @@
 use Rattle.std.specs.Prelude.{ℕ, true, false, List, [], ◌∷◌, ◌++◌}
 use Prim.Native.String.{String}
 use Rattle.rules.specs.Answers.{answer, refused}
-use Rattle.table.specs.Columns.{Row}
-use Rattle.order.specs.Order.{Order, same, first, second, incomparable}
+use Rattle.table.specs.declared.Row.{Row}
+use Rattle.order.specs.declared.Ordered.{Ordered}
+use Rattle.order.specs.declared.Ordered.TheVariants.{Same as same, First as first, Second as second, Incomparable as incomparable}
 use Rattle.grant.specs.Grant.{grant}
 use Rattle.renewals.specs.Dating.{on_open, on_until, ended, ahead, never}
 use Rattle.calendar.specs.Calendar.{date}
@@ -21,7 +22,7 @@ count n = refine_says (answer n)
 abbrev pub no : ℕ → Reply
 no n = refine_says (refused n)
 
-abbrev pub says : Order → Reply
+abbrev pub says : Ordered → Reply
 says o = order_says (answer o)
 
 abbrev pub unknown : Reply
