@@ -14,10 +14,9 @@ use Rattle.table.specs.Columns.{Columns, rows}
 use Rattle.table.specs.declared.Row.{Row}
 use Rattle.table.specs.Check.{some_row, some_pair, lengths_bad, count_bad, in_use, value_bad, same_id, ranges_meet, sound_rows, checked}
 use Rattle.table.specs.Sound.{Lengths}
-use Rattle.table.specs.Inside.Held.{Holds}
 use Rattle.table.specs.InUse.{rows_of, found}
 use Rattle.table.specs.declared.in_use.RowsInUse.{RowsInUse}
-use Rattle.table.proofs.Lengths.{lengths_good, count_good, holds_count}
+use Rattle.table.proofs.Lengths.{lengths_good, count_good}
 
 -- rows that pass 11, 12 and 13
 pub record Good (t : List Row) : Type 0 where
@@ -69,9 +68,6 @@ check_passed c count e =
     let d = count_good _ _ b.1 in
     let g = good_rows (rows c count) a.1 in
     (record { lengths = lengths_good c b.0; some = d.0; most = d.1; good = g.0 }, g.1)
-
-pub passed_holds : {c : Columns} {count : ℕ} → Passed c count → Holds c count
-passed_holds p = holds_count p.lengths p.most
 
 -- what a verdict of the code means
 module _ (c : Columns) (count : ℕ) {v : Result RowsInUse Refusal} (e : found v ≡ checked c count) where

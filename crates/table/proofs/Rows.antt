@@ -55,10 +55,6 @@ pub rows_put : (t : List Row) (c : Columns) → rows (put t c) (length t) ≡ t
 unfolding put
 rows_put t c = rows_laid t _ _ _ _
 
--- columns that hold some rows hold fewer
-pub holds_less : {c : Columns} {m n : ℕ} → Holds c n → m ≤ n → Holds c m
-holds_less h k = record { in_id = omega (arith, h.in_id); in_l = omega (arith, h.in_l); in_r = omega (arith, h.in_r); in_q = omega (arith, h.in_q) }
-
 -- one row put into columns is a store at the top of each
 set_first : (v : ℕ) (s : List ℕ) → 1 ≤ length s → set s 0 v ≡ v ∷ drop 1 s
 set_first v s h = set_split s 0 v (omega arith)

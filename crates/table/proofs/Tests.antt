@@ -2,8 +2,7 @@
 use mathlib.Core.Path.{◌≡◌, refl, ap, sym, ◌∙◌}
 use mathlib.Core.Bool.{Bool, true, false, ◌||◌, true≢false, or_assoc, or-false, or-true}
 use mathlib.Core.List.{List, [], ◌∷◌, ◌++◌}
-use Prim.Native.Nat.{ℕ, ◌+◌, ◌-◌, ◌≤◌, ◌<◌}
-use native.Mathlib.Omega.{arith}
+use Prim.Native.Nat.{ℕ, ◌+◌, ◌-◌, ◌<◌}
 use Rattle.table.specs.Columns.{Columns, row_at, rows_from, rows}
 use Rattle.table.specs.declared.Row.{Row}
 use Rattle.table.specs.Check.{some_row, some_pair}
@@ -82,10 +81,6 @@ module _ (c : Columns) (i : ℕ) where
   pub pair_found : (n : ℕ) (p : Row → Row → Bool) → i < n → some_row (λ v. p v (row_at c i)) (rows c i) ≡ true → some_pair p (rows c n) ≡ true
   pair_found n p h k =
       ap (some_pair p) (rows_at c i n h) ∙ pair_more p (rows c (i + 1)) (rows_from c (i + 1) (n - (i + 1))) (pair_here p k)
-
-  -- at the end of the rows
-  pub none_all : (n : ℕ) (p : Row → Bool) → i ≤ n → n ≤ i → some_row p (rows c i) ≡ false → false ≡ some_row p (rows c n)
-  none_all n p h k e = let f : i ≡ n = omega arith in sym (rw f at e)
 
 -- before the first row
 pub none_yet : (c : Columns) (p : Row → Bool) → some_row p (rows c 0) ≡ false
