@@ -1,5 +1,5 @@
 -- The ledger's order after an accepted request, by cases: an entry, or another group of the old state.
-use mathlib.Core.Path.{◌≡◌, refl, ◌∙◌}
+use mathlib.Core.Path.{◌≡◌, refl}
 use mathlib.Core.Bool.{Bool, true, false, not, ◌&&◌, ◌||◌, and-false, or-true, or-false}
 use mathlib.Core.Logic.{◌≢◌}
 use mathlib.Core.List.{◌++◌}
