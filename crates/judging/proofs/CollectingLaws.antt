@@ -7,7 +7,7 @@ use native.Mathlib.Omega.{arith}
 use native.Mathlib.Numerals.{add-one}
 use lib.Dec.{eqb}
 use lib.ListN.{length, get_or, set, take, drop, length-append, drop_of_length-le}
-use lib.Seq.{sets, sets-eq, length-sets, take-append_seam}
+use lib.Seq.{sets, sets-eq, length-sets, length-take-le, take-append_seam}
 use borrow.Author.Tests.{eq-eqb, ne_eqb}
 use Rattle.judging.specs.Inside.Collecting.{others_than, Collects}
 use Rattle.judging.proofs.Ids.{ids_step}
@@ -66,3 +66,6 @@ collected {a} {b} {s} {t} {w} {n} {m} f g h =
     let all : w ≡ (a ++ b) ++ drop (n + length b) t = g.are ∙ sets-eq b t n (omega (arith, g.end)) ∙ ap (λ y. (y ++ b) ++ drop (n + length b) t) front in
     let k : m ≡ length (a ++ b) = omega (arith, length-append a b, f.end, g.end) in
     ap (take m) all ∙ ap (λ j. take j ((a ++ b) ++ drop (n + length b) t)) k ∙ take-append_seam (a ++ b) (drop (n + length b) t)
+
+pub front_whole : (s : List ℕ) (m : ℕ) → m ≤ length s → m ≡ length (take m s)
+front_whole s m h = sym (length-take-le m s h)

@@ -20,16 +20,6 @@ module _ (s : List ℕ) (i : ℕ) (h : i < length s) where
   pub ids_step : drop i s ≡ get_or s i 0 ∷ drop (i + 1) s
   ids_step = rw (add-one, drop-cons s i 0 h)
 
-  -- how often x comes from here on
-  module _ (x : ℕ) where
-    pub count_here : get_or s i 0 ≡ x → times_in x (drop i s) ≡ 1 + times_in x (drop (i + 1) s)
-    unfolding times_in
-    count_here e = ap (times_in x) ids_step ∙ rw (eq-eqb x (get_or s i 0) (sym e))
-
-    pub count_past : (get_or s i 0 ≡ x → ⊥) → times_in x (drop i s) ≡ times_in x (drop (i + 1) s)
-    unfolding times_in
-    count_past e = ap (times_in x) ids_step ∙ rw (ne_eqb x (get_or s i 0) (λ z. e (sym z))) (omega arith)
-
 -- no id comes more often than there are ids
 pub times_most : (x : ℕ) (s : List ℕ) → times_in x s ≤ length s
 unfolding times_in

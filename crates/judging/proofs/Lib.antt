@@ -1,5 +1,4 @@
 pub mod Ids
 pub mod CollectingLaws
 pub mod Differing
-pub mod JudgingLaws
 pub mod Accepting

@@ -13,6 +13,7 @@ const MANY_ENTRIES: usize = 16;
 const ID_CAPACITY: usize = ROW_CAPACITY + 1;
 
 // Puts the ids that are not the exploded one behind the first n numbers of an array. The answer is how many numbers it then has.
+#[tactic(auto, using(crate::proofs::CollectingLaws::begins, crate::proofs::CollectingLaws::others_here, crate::proofs::CollectingLaws::others_past, crate::proofs::CollectingLaws::sets_more, crate::proofs::CollectingLaws::done))]
 fn collect(ids: &[u32], exploded: u32, n: usize, all: &mut [u32; ID_CAPACITY]) -> usize
     requires { n + length ids.now ≤ id_capacity }
     ensures { Collects (others_than exploded ids.now) n all.old all.new result }
@@ -29,6 +30,7 @@ fn collect(ids: &[u32], exploded: u32, n: usize, all: &mut [u32; ID_CAPACITY]) -
 
 // True only where no two of the ids but the exploded one are equal. False says nothing: it is the answer for few entries, and for more ids
 // than the array holds.
+#[tactic(auto, using(crate::proofs::CollectingLaws::others_most, crate::proofs::CollectingLaws::collected_length, crate::proofs::CollectingLaws::collected, crate::proofs::CollectingLaws::front_whole))]
 pub(crate) fn others_differ(id: &[u32], exploded: u32, ids: &[u32]) -> bool
     ensures { result ≡ true → all_differ (others_than exploded id.now ++ others_than exploded ids.now) ≡ true }
 {
@@ -38,6 +40,7 @@ pub(crate) fn others_differ(id: &[u32], exploded: u32, ids: &[u32]) -> bool
     if ID_CAPACITY < id.len() + ids.len() {
         return false;
     }
+    // No heap: a fixed array, and how many of its numbers are in use.
     let mut all = [0; ID_CAPACITY];
     let n = collect(id, exploded, 0, &mut all);
     let m = collect(ids, exploded, n, &mut all);

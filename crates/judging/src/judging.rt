@@ -42,6 +42,7 @@ fn value_at(column: &[u32], i: usize) -> u32
 // 20, 21, 22, 26, 23 and 24 in that order, for a request that was read. `id` and `q` are the rows in use of a table whose columns have
 // `room` rows, `ids` are the ids of the entries, and `quota` is all their quota. Where the quick test says nothing, 22 and 26 are looked for;
 // as the exploded id comes once, 26 is that the entries' ids do not all differ.
+#[tactic(auto, unfolding(crate::specs::Judging::judged_in), using(crate::proofs::Differing::none_taken, crate::proofs::Differing::none_twice, crate::proofs::Differing::twice_is, crate::proofs::Ids::times_most))]
 pub fn judge(
     id: &[u32],
     q: &[u32],
