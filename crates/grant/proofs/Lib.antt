@@ -1,3 +1,4 @@
 pub mod Listing
+pub mod Folding
 pub mod RoundTrip
 pub mod Items

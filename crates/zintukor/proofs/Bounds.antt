@@ -16,7 +16,8 @@ use Rattle.rules.proofs.Answers.{same_answer, never_refused, peel}
 use Rattle.rules.proofs.Cases.{by_lt}
 use Rattle.number.specs.Number.{bytes_of}
 use Rattle.number.proofs.Laws.{number_count}
-use Rattle.table.specs.Columns.{Row, Columns, counted}
+use Rattle.table.specs.declared.Row.{Row}
+use Rattle.table.specs.Columns.{Columns, counted}
 use Rattle.table.specs.Check.{lengths_bad, checked}
 use Rattle.fresh.specs.Fresh.{fresh_rows}
 use Rattle.table.proofs.Lengths.{lengths_good}

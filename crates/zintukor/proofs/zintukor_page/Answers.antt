@@ -8,14 +8,14 @@ use Rattle.zintukor.proofs.Bounds.{page_small, used_count, used, unused, used_mo
 use Rattle.zintukor.proofs.zintukor_page.Goals as goal
 
 pub slice_bounds-page-end-2 : goal.slice_bounds-page-end-2
-slice_bounds-page-end-2 c = used_count _ greatest c.in_32_bits-room.ensures
+slice_bounds-page-end-2 c = used_count _ greatest c.min-room.ensures
 
-pub written_code-requires : goal.written_code-requires
-written_code-requires c = rw c.page.ensures.result_value (page_small _ _ _ _ _ (used_most _ greatest c.in_32_bits-room.ensures))
+pub answer_code-requires : goal.answer_code-requires
+answer_code-requires c = rw c.page.ensures.result_value (page_small _ _ _ _ _ (used_most _ greatest c.min-room.ensures))
 
 pub returns : goal.returns
 returns c =
-    let u = used c.args.buffer.now greatest c.in_32_bits-room.ensures in record {
-      value = c.written_code.ensures ∙ ap count_code (c.page.ensures.result_value ∙ ap (page_answer c.args.l c.args.r c.args.day c.args.grants.now) u);
-      buffer_value = ap₂ ◌++◌ (c.page.ensures.buffer_value ∙ ap (page_buffer (page_of c.args.l c.args.r c.args.day c.args.grants.now)) u) (unused c.args.buffer.now greatest c.in_32_bits-room.ensures);
+    let u = used c.args.buffer.now greatest c.min-room.ensures in record {
+      value = c.answer_code.ensures ∙ ap count_code (c.page.ensures.result_value ∙ ap (page_answer c.args.l c.args.r c.args.day c.args.grants.now) u);
+      buffer_value = ap₂ ◌++◌ (c.page.ensures.buffer_value ∙ ap (page_buffer (page_of c.args.l c.args.r c.args.day c.args.grants.now)) u) (unused c.args.buffer.now greatest c.min-room.ensures);
     }
