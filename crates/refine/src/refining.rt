@@ -49,7 +49,8 @@ fn judge_request(
 }
 
 // Explodes a group into the entries of a request: 10 to 13, the request from left to right, then 20, 21, 22, 26, 23, 24. Accepted, the
-// exploded id keeps its row, the other entries take the next rows, and the answer is the new count; refused, no column changes.
+// exploded id keeps its row, the other entries take the next rows, and the answer is the new count; refused, no column changes. The columns are
+// four slices, here and below: a host lends each apart, and each is written by a call of its own.
 pub fn refine(
     id: &mut [u32],
     l: &mut [u32],

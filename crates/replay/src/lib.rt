@@ -30,7 +30,8 @@ fn write_answer(writer: &mut Writer<'_>, a: Result<usize, Refusal>)
 
 // Carries out the requests from a position of the log on, and writes a line for each and then the table; answers how many bytes. The writer
 // stands at the buffer's start. The log is walked by a position, and not by an iterator of its parts: the definition goes by positions too, and
-// a part is read only once the request before it is carried out.
+// a part is read only once the request before it is carried out. The columns are four slices: a struct of them would be taken apart again for
+// each call of `refine`.
 fn carry_out(
     log: &[u8],
     from: usize,

@@ -4,7 +4,7 @@ use mathlib.Core.List.{List, [], ◌∷◌, ◌++◌, map, flat_map, append_asso
 use Prim.Native.Nat.{ℕ, zero, suc, ◌+◌, ◌*◌, ◌-◌, ◌≤◌, ◌<◌}
 use native.Mathlib.Omega.{arith}
 use lib.ListN.{length, take, set, length-set}
-use lib.Seq.{take-suc-set, take-set-le, take-take, length-take-le}
+use lib.Seq.{take-suc-set, take-set-le, take-take}
 use Rattle.rules.specs.Buffers.{after}
 use Rattle.rules.proofs.Pieces.{Wrote, wrote_none, piece_room, wrote_more, wrote_all}
 use Rattle.writer.specs.Writing as writing
@@ -177,9 +177,6 @@ shapes_over chosen i (suc left) due w h e r =
     let n : shapes_bytes chosen i (suc left) due ≡ [] = rw e (shapes_idle chosen i left) in
     let m = rw n at r in
     rw n (writers.wrote_none w (omega arith))
-
-pub row_whole : (row : List ℕ) (n : ℕ) → n ≤ row_length → length row ≡ row_length → length (take n row) ≡ n
-row_whole row n h l = length-take-le n row (omega arith)
 
 -- it is written as it stands
 pub whole_written : (row : List ℕ) (done i left due : ℕ) {old new : Writer} → left ≡ 0 → due ≤ left → done ≤ row_length → length row ≡ row_length
