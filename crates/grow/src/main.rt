@@ -6,7 +6,6 @@ ghost use Rattle.std.specs.Prelude.{◌≡◌, ◌≤◌, length, replicate, tak
 ghost use Rattle.rules.specs.Limits.{most_rows};
 ghost use Rattle.replay.specs.Replay.{blank, grow_text};
 
-use replay::Grown;
 use rules::MOST_ROWS;
 use std::io;
 use std::io::Read;
@@ -25,6 +24,7 @@ fn column() -> [u32; MOST_ROWS]
 // Room for the text of any log of 65536 bytes: 14 for each of its bytes, and 16384 for the table.
 const TEXT_ROOM: usize = 933888;
 
+// In a function of its own: tried, in `main` the check runs out of room on so long an array.
 fn text_buffer() -> [u8; TEXT_ROOM] {
     [0; TEXT_ROOM]
 }
@@ -42,24 +42,9 @@ fn write_text(log: &[u8], text: &mut [u8]) -> usize
     let mut r = column();
     let mut q = column();
     match replay::grow(log, &mut id, &mut l, &mut r, &mut q, text) {
-        Grown::Text(n) => n,
-        Grown::NoRoom => 0,
+        Some(n) => n,
+        None => 0,
     }
-}
-
-// Prints so many bytes of a text.
-fn print(rt: &impl Print, text: &[u8], n: usize) -> io::Result<()>
-    requires { n ≤ length text.now }
-{
-    rt.write_all(&text[..n])
-}
-
-// Carries out a log and prints what it says.
-fn report(rt: &impl Print, log: &[u8], text: &mut [u8; TEXT_ROOM]) -> io::Result<()>
-    requires { length log.now ≤ 65536 }
-{
-    let n = write_text(log, &mut *text);
-    print(rt, &*text, n)
 }
 
 fn main(rt: HostRuntime) -> io::Result<()> {
@@ -67,5 +52,6 @@ fn main(rt: HostRuntime) -> io::Result<()> {
     rt.stdin().take(MOST_BYTES as u64).read_to_end(&mut input)?;
     let n = input.len().min(MOST_BYTES);
     let mut text = text_buffer();
-    report(&rt, &input[..n], &mut text)
+    let length = write_text(&input[..n], &mut text);
+    rt.write_all(&text[..length])
 }

@@ -15,19 +15,19 @@ room log text short long = omega arith
 made : {id l r q : List ℕ} → id ≡ replicate most_rows 0 → l ≡ replicate most_rows 0 → r ≡ replicate most_rows 0 → q ≡ replicate most_rows 0 → columns id l r q ≡ blank
 made a b c d = rw (a, b, c, d)
 
-pub returns-in-Text : goal.returns-in-Text
-returns-in-Text c =
+pub returns-in-Some : goal.returns-in-Some
+returns-in-Some c =
     let log = c.args.log.now in
     let text = c.args.text.now in
     let new_table = made c.column-id.ensures.value c.column-l.ensures.value c.column-r.ensures.value c.column-q.ensures.value in
     let t = grown_text blank log text (room log text c.requires.log_len_bound c.requires.in_bounds)
-    (c.in-Text.ensures.value ∙ ap (λ x. grow_answer x log text) new_table) refl
-    (c.in-Text.ensures.text_value ∙ ap (λ x. grow_buffer x log text) new_table) in
+    (c.in-Some.ensures.value ∙ ap (λ x. grow_answer x log text) new_table) refl
+    (c.in-Some.ensures.text_value ∙ ap (λ x. grow_buffer x log text) new_table) in
     record { prefix_len = t.0; text_value = t.1 }
 
-pub returns-in-NoRoom : goal.returns-in-NoRoom
-returns-in-NoRoom c =
+pub returns-in-None : goal.returns-in-None
+returns-in-None c =
     let log = c.args.log.now in
     let text = c.args.text.now in
     let new_table = made c.column-id.ensures.value c.column-l.ensures.value c.column-r.ensures.value c.column-q.ensures.value in
-    grown_room blank log text (room log text c.requires.log_len_bound c.requires.in_bounds) (c.in-NoRoom.ensures.value ∙ ap (λ x. grow_answer x log text) new_table) refl
+    grown_room blank log text (room log text c.requires.log_len_bound c.requires.in_bounds) (c.in-None.ensures.value ∙ ap (λ x. grow_answer x log text) new_table) refl
