@@ -6,9 +6,9 @@ ghost use Rattle.decide.specs.Decision.{asked};
 ghost use Rattle.decision_line.specs.DecisionText.{decision_text};
 
 use decision_line::write_decision;
-use number::Written;
 use std::io;
 use std::io::Read;
+use writer::Writer;
 
 // How many bytes of input are read.
 const MOST_BYTES: u64 = 65536;
@@ -22,9 +22,10 @@ fn answer(question: &[u8], text: &mut [u8]) -> usize
     ensures prefix_len { result ≤ length text.new }
     ensures text_value { take result text.new ≡ decision_text (asked question.now) }
 {
-    match write_decision(text, 0, decide::question(question)) {
-        Written::Bytes(n) => n,
-        Written::Refused(_) => 0,
+    let mut writer = Writer::new(text, 0);
+    match write_decision(&mut writer, decide::question(question)) {
+        Ok(n) => n,
+        Err(_) => 0,
     }
 }
 
