@@ -11,6 +11,11 @@ use Rattle.entries.specs.Positive.{positive_value}
 
 -- ## A number that may not be 0
 
+-- one that was drawn at a position, judged, is the definition's
+pub positive_at_lem : (bytes : List ℕ) (at : ℕ) {number : Answer Number} → number ≡ number_at bytes at → positive_of number ≡ positive_at bytes at
+unfolding positive_at
+positive_at_lem bytes at h = ap positive_of h
+
 -- its value is the value drawn, judged
 pub positive_drawn : (a : Answer Number) → positive_value (drawn a) ≡ drawn (positive_of a)
 positive_drawn (refused n) = refl

@@ -1,15 +1,17 @@
 -- What the check of work columns says of the rows in them, and of the table that was read.
-use mathlib.Core.Path.{◌≡◌, ap, sym, ◌∙◌}
+use mathlib.Core.Path.{◌≡◌, refl, ap, sym, ◌∙◌}
 use mathlib.Core.Bool.{true, false}
 use mathlib.Core.List.{List}
 use Prim.Native.Nat.{ℕ, ◌≤◌}
 use native.Mathlib.Omega.{arith}
 use lib.ListN.{length}
 use Rattle.rules.specs.Capacities.{row_capacity}
-use Rattle.rules.specs.Answers.{answer, refused}
+use Rattle.rules.specs.Answers.{Answer, answer, refused, then, given}
 use Rattle.number.specs.Number.{number_at}
 use Rattle.number.specs.declared.Number.{Number}
 use Rattle.table.specs.Columns.{Columns, columns, rows, overlay, counted, afterwards}
+use Rattle.table.specs.declared.Row.{Row}
+use Rattle.load.specs.Work.{rows_checked}
 use Rattle.table.specs.declared.in_use.RowsInUse.{RowsInUse}
 use Rattle.table.specs.InUse.{columns_of, rows_of, Cut}
 use Rattle.table.specs.Check.{lengths_bad, count_bad, sound_rows, checked}
@@ -23,6 +25,20 @@ pub work_checked : (c : Columns) {count : ℕ} → length c.id ≡ row_capacity 
     → 1 ≤ count → count ≤ row_capacity → checked c count ≡ sound_rows (rows c count)
 unfolding checked lengths_bad
 work_checked c {count} hi hl hr hq some most = rw (hi, hl, hr, hq, good_count row_capacity count some most)
+
+-- and what the check finds of them is what their rows come to
+pub rows_checked_lem : (c : Columns) {count : ℕ} → length c.id ≡ row_capacity → length c.l ≡ row_capacity → length c.r ≡ row_capacity → length c.q ≡ row_capacity
+    → 1 ≤ count → count ≤ row_capacity → (v : Answer (Unit {0})) → v ≡ given (checked c count) → rows_checked v c count ≡ sound_rows (rows c count)
+rows_checked_lem c {count} hi hl hr hq some most v e =
+    let w = work_checked c hi hl hr hq some most in
+    ap (λ a. rows_checked a c count) (e ∙ ap given w) ∙ passed (rows c count)
+  where
+    passed : (t : List Row) → then (given (sound_rows t)) (λ _. sound_rows t) ≡ sound_rows t
+    passed t = go (sound_rows t)
+      where
+        go : (a : Answer (List Row)) → then (given a) (λ _. a) ≡ a
+        go (answer t) = refl
+        go (refused n) = refl
 
 -- ## Each step of a read
 
