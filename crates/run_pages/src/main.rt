@@ -34,6 +34,7 @@ fn page<W: Write>(out: &mut W, line: &[u8]) -> io::Result<()> {
     show::buffer(out, &buffer, written.unwrap_or(0))
 }
 
+// Each program's own calls, by their letters: one `main` for all would be no plainer.
 fn main(rt: HostRuntime) -> io::Result<()> {
     show::run(&rt, |out, line| match command(line) {
         Some(b'd') => date(out, line),

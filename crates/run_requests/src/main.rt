@@ -39,6 +39,7 @@ fn grow<W: Write>(out: &mut W, line: &[u8]) -> io::Result<()> {
     show::columns(out, &columns)
 }
 
+// Each program's own calls, by their letters: one `main` for all would be no plainer.
 fn main(rt: HostRuntime) -> io::Result<()> {
     show::run(&rt, |out, line| match command(line) {
         Some(b'r') => refine(out, line),

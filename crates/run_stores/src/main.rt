@@ -37,6 +37,7 @@ fn store<W: Write>(out: &mut W, line: &[u8]) -> io::Result<()> {
     show::buffer(out, &buffer, 0)
 }
 
+// Each program's own calls, by their letters: one `main` for all would be no plainer.
 fn main(rt: HostRuntime) -> io::Result<()> {
     show::run(&rt, |out, line| match command(line) {
         Some(b's') => store(out, line),

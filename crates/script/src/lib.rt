@@ -65,6 +65,7 @@ pub struct Items<'a> {
     tokens: Tokens<'a>,
     section: Option<u8>,
     member: Member,
+    // How many more there may be. A limit by `take` would be no plainer: what is left would have to be read out of it.
     turns: usize,
 }
 
@@ -260,6 +261,7 @@ pub fn command(line: &[u8]) -> Option<u8>
 pub fn given(line: &[u8], before: usize) -> u64
     ensures { result ≡ given_of line.now before }
 {
+    // Tried: the proof didn't close of `filter_map` with `nth`, nor with `skip` and `next`, over the tokens or over their numbers.
     let mut left = before;
     for token in (Tokens { rest: line }) {
         if let Token::Digits(n) = token {

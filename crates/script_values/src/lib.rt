@@ -12,7 +12,7 @@ pub use bytes::Bytes;
 pub use column::{Column, Columns};
 pub use filled::Filled;
 
-// A number in 32 bits: the greatest there is where it has more.
+// A number in 32 bits: the greatest there is where it has more. No conversion of std's does that.
 #[tactic(auto, unfolding(crate::specs::Values::narrowed))]
 pub fn narrow(n: u64) -> u32
     ensures { result ≡ narrowed n }
@@ -20,7 +20,7 @@ pub fn narrow(n: u64) -> u32
     u32::try_from(n).unwrap_or(u32::MAX)
 }
 
-// So many bytes of a buffer of 65536, or all.
+// So many bytes of a buffer of 65536, or all. A function, since `min` at each call would be no plainer.
 #[tactic(auto, unfolding(crate::specs::Values::room_of))]
 pub fn room(n: u64) -> usize
     ensures upper_bound { result ≤ 65536 }

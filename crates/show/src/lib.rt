@@ -55,7 +55,7 @@ pub enum Shown {
     Not,
     Parts,
     NoParts,
-    // No refusal, and so without a number.
+    // A case of its own: what has no room is no refusal, and has no number.
     NoRoom,
 }
 
