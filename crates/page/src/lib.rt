@@ -22,7 +22,8 @@ fn count_lines(pass: Pass, grants: &[u8]) -> Result<usize, Refusal>
     for item in Grants::new(grants) {
         let grant = item?;
         let applies = pass.covered_by(grant);
-        if undated(grant) {
+        let late = undated(grant);
+        if late {
             return Err(Refusal::Undated);
         }
         if applies {

@@ -1,8 +1,12 @@
-use mathlib.Core.Path.{ap, sym, ◌∙◌}
+use mathlib.Core.Path.{◌≡◌, ap, sym, ◌∙◌}
 use native.Mathlib.Omega.{arith}
 use lib.ListN.{length}
 use Rattle.std.proofs.lemmas.Result.{err_from_is_err_and}
+use borrow.Author.Rules.{rules}
+use mathlib.Core.Bool.{true, false}
+use Rattle.grant.specs.Says.{grant_of}
 use Rattle.grant.proofs.Items.{items_count}
+use Rattle.board.specs.Board.{undated}
 use Rattle.page.proofs.Listing.{lines_end, lines_refused, lines_undated, lines_applies, lines_other, lines_whole}
 use Rattle.page.proofs.count_lines.Goals as goal
 
@@ -16,9 +20,10 @@ returns-in_err-grant c =
     let p = err_from_is_err_and c.from_residual.result c.from_residual.ensures.1 in
     rw (p.1, p.2) (sym (lines_refused _ _ c.loop-item.lines (rw c.in_err-grant.was at c.in-Some.ensures.steps)) ∙ c.loop-item.invariant.all)
 
-pub returns-then-undated : goal.returns-then-undated
-returns-then-undated c =
-    sym (lines_undated _ _ c.loop-item.lines (rw c.in_ok-grant.was at c.in-Some.ensures.steps) (sym c.undated.ensures ∙ c.if-undated.true)) ∙ c.loop-item.invariant.all
+pub returns-then-late : goal.returns-then-late
+returns-then-late c =
+    let late : undated (grant_of c.in_ok-grant.grant) ≡ true = search rules in
+    sym (lines_undated _ _ c.loop-item.lines (rw c.in_ok-grant.was at c.in-Some.ensures.steps) late) ∙ c.loop-item.invariant.all
 
 pub overflow_add-lines : goal.overflow_add-lines
 overflow_add-lines c = omega (arith, c.loop-item.invariant.few, ap length c.in-Some.ensures.steps)
@@ -26,17 +31,19 @@ overflow_add-lines c = omega (arith, c.loop-item.invariant.few, ap length c.in-S
 pub loop-item-preserved-then-applies : goal.loop-item-preserved-then-applies
 loop-item-preserved-then-applies c =
     let e = rw c.in_ok-grant.was at c.in-Some.ensures.steps in
+    let no : undated (grant_of c.in_ok-grant.grant) ≡ false = search rules in
     record {
       few = omega (arith, c.loop-item.invariant.few, ap length e);
-      all = sym (lines_applies _ _ c.loop-item.lines e (sym c.undated.ensures ∙ c.if-undated.false) (sym c.covered_by-applies.ensures ∙ c.if-applies.true)) ∙ c.loop-item.invariant.all;
+      all = sym (lines_applies _ _ c.loop-item.lines e no (sym c.covered_by-applies.ensures ∙ c.if-applies.true)) ∙ c.loop-item.invariant.all;
     }
 
 pub loop-item-preserved : goal.loop-item-preserved
 loop-item-preserved c =
     let e = rw c.in_ok-grant.was at c.in-Some.ensures.steps in
+    let no : undated (grant_of c.in_ok-grant.grant) ≡ false = search rules in
     record {
       few = omega (arith, c.loop-item.invariant.few, ap length e);
-      all = sym (lines_other _ _ c.loop-item.lines e (sym c.undated.ensures ∙ c.if-undated.false) (sym c.covered_by-applies.ensures ∙ c.if-applies.false)) ∙ c.loop-item.invariant.all;
+      all = sym (lines_other _ _ c.loop-item.lines e no (sym c.covered_by-applies.ensures ∙ c.if-applies.false)) ∙ c.loop-item.invariant.all;
     }
 
 pub returns : goal.returns
