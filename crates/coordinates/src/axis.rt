@@ -20,6 +20,7 @@ impl<const OF_R: bool> Coordinate<OF_R> {
         Coordinate(n)
     }
 
+    // No PartialOrd, which would bring sorting, a least and a greatest along: none means anything in the plane.
     pub fn at_most(self, other: Self) -> bool
         ensures { result ≡ at_most self.entry.0 other.entry.0 }
     {

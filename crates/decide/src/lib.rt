@@ -67,7 +67,8 @@ pub fn decide(feature: u32, l: u32, r: u32, day: u32, grants: &[u8]) -> Result<D
     Ok(t.decision_of(day))
 }
 
-// A question in bytes: feature, l, r and day (1 or 2 for a bad one, then 15), then a grant list.
+// A question in bytes: feature, l, r and day (1 or 2 for a bad one, then 15), then a grant list. Each number by its place, and not by the reader:
+// where the list begins is the last one's end.
 #[tactic(auto, unfolding(crate::specs::Decision::asked))]
 pub fn question(bytes: &[u8]) -> Result<Decided, Refusal>
     ensures { decided_says result ≡ asked bytes.now }

@@ -39,7 +39,7 @@ pub(crate) fn ids_chained(ids: &[u32]) -> bool
     requires { length ids.now ≤ row_capacity }
     ensures { result ≡ all_differ ids.now }
 {
-    // A link is a row and one, or 0 where a chain ends: an `Option<u16>` would take twice the memory.
+    // No heap: chains in arrays on the stack. A link is a row and one, or 0 where a chain ends: an `Option<u16>` would take twice the memory.
     let mut head = [0u16; SLOTS];
     let mut next = [0u16; ROW_CAPACITY];
     for (i, x) in ids.iter().enumerate() {

@@ -9,6 +9,7 @@ ghost use Rattle.fresh.specs.Fresh.{fresh_rows};
 use rules::Refusal;
 use table::lengths_bad;
 
+// The columns are four slices, as a host lends them and document 01 names them.
 // Writes row 0: the group with l = 1, r = 1 and the quota. 10 for lengths, then 11 for id or quota 0.
 #[tactic(auto, unfolding(crate::specs::Fresh::fresh_rows))]
 pub fn fresh(

@@ -18,7 +18,7 @@ pub struct Grant {
     // The group's numbers.
     pub l: LValue,
     pub r: RValue,
-    // The first day, and the last; last day 0 means open.
+    // The first day, and the last; last day 0 means open: the bytes of a grant say it so, and each rule does.
     pub first: u32,
     pub last: u32,
 }
@@ -30,7 +30,7 @@ pub struct GrantRead {
     pub next: usize,
 }
 
-// 14: feature, l, r or first is 0, or last is not 0 and below first.
+// 14: feature, l, r or first is 0, or last is not 0 and below first. Of numbers: a coordinate doesn't tell its own.
 #[tactic(auto, unfolding(crate::specs::Grant::grant_bad))]
 fn grant_bad(feature: u32, l: u32, r: u32, first: u32, last: u32) -> bool
     ensures { result ≡ grant_bad (grant feature l r first last) }
@@ -44,7 +44,7 @@ fn grant_bad(feature: u32, l: u32, r: u32, first: u32, last: u32) -> bool
     last < first
 }
 
-// A grant whose five numbers are read: 14.
+// A grant whose five numbers are read: 14. They come one by one, since they are no grant before that.
 #[tactic(auto, unfolding(crate::specs::Grant::checked_grant))]
 fn checked_grant(
     feature: u32,

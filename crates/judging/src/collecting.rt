@@ -18,6 +18,7 @@ fn collect(ids: &[u32], exploded: u32, n: usize, all: &mut [u32; ID_CAPACITY]) -
     requires { n + length ids.now ≤ id_capacity }
     ensures { Collects (others_than exploded ids.now) n all.old all.new result }
 {
+    // How many places are filled, and no index of the ids.
     let mut m = n;
     for x in ids {
         if *x != exploded {

@@ -32,7 +32,7 @@ fn some_id_taken(id: &[u32], exploded: u32, ids: &[u32]) -> bool
     ids.iter().any(|x| id_taken(id, exploded, *x))
 }
 
-// What a column has at row i, or 0 where it has no such row.
+// What a column has at row i, or 0 where it has no such row, as the definitions have it.
 fn value_at(column: &[u32], i: usize) -> u32
     ensures { result ≡ get_or column.now i 0 }
 {

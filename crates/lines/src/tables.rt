@@ -20,7 +20,8 @@ fn row_length(row: Row) -> usize
     field_length(row.id) + field_length(row.l) + field_length(row.r) + field_length(row.q)
 }
 
-// How many bytes the rows have.
+// How many bytes the rows have. Crate store has such a loop, and one like `write_rows`: a function for both would take closures with contracts
+// longer than the loops.
 fn rows_length(rows: RowsInUse<'_>) -> usize
     ensures { result ≡ length (rows_text (rows_of rows.entry)) }
 {

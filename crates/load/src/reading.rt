@@ -67,6 +67,7 @@ fn copy(column: &mut [u32], values: &[u32])
     column[..values.len()].copy_from_slice(values);
 }
 
+// The columns are four slices, as a host lends them and document 01 names them.
 // Reads a table in: 10 for lengths, the count, 10 for the count, the rows, 6 where bytes remain, then 11, 12, 13.
 // A refused read changes no column: no row is copied.
 pub fn read(

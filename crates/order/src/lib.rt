@@ -58,6 +58,7 @@ fn row_of(rows: RowsInUse<'_>, id: u32) -> Result<Row, Refusal>
     rows.get(place).ok_or(Refusal::IdUnknown)
 }
 
+// The columns are four slices, as a host lends them and document 01 names them.
 // The order of two groups: 10 to 13, then 20 for either id.
 #[tactic(auto, unfolding(crate::specs::Order::order, crate::specs::Order::order_in))]
 pub fn order(

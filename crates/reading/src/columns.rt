@@ -4,7 +4,8 @@ ghost use Rattle.reading.specs.Work.{no_work};
 
 use rules::ENTRY_CAPACITY;
 
-// A request's entries in its order, each with its id, its quota, where its subtree ends and its subtree's quota.
+// A request's entries in its order, each with its id, its quota, where its subtree ends and its subtree's quota. Arrays side by side on the
+// stack: no heap, and refine writes a column of the table from a column.
 #[derive(Drop)]
 pub struct Work {
     pub ids: [u32; ENTRY_CAPACITY],

@@ -13,6 +13,7 @@ fn place(column: &mut [u32], accepted: Accepted, base: u32, ids: &[u32], values:
     requires bounded { Bounded base values.now }
     ensures { column.new ≡ placed accepted.exploded accepted.own accepted.next base ids.now values.now column.old }
 {
+    // The next row to fill, and no index of the entries.
     let mut row = accepted.next;
     for (x, value) in ids.iter().zip(values) {
         if *x == accepted.exploded {

@@ -66,7 +66,7 @@ pub enum Refusal {
 }
 
 impl Refusal {
-    // The refusal's number (RULES.md, 12).
+    // The refusal's number (RULES.md, 12). A match, since it is that table, row by row; numbers of the cases would be no plainer.
     pub fn number(self) -> u32
         ensures { result ≡ refusal_number self }
     {

@@ -18,7 +18,7 @@ const GREATEST_SIZE: u32 = 6;
 const LEAD: u8 = 4;
 // The bytes of an entry: its id, its quota, its child count.
 const ENTRY: u8 = 3;
-// The byte that a direction is in a request.
+// The byte that a direction is in a request; an enum would be turned into it at once.
 const UPRIGHT: u8 = 0;
 
 const INVERTED: u8 = 1;
@@ -83,7 +83,7 @@ fn write_direction(writer: &mut Writer<'_>, row: &mut [u8], direction: u8, size:
     }
 }
 
-// How many requests a size has.
+// How many requests a size has: a table by sizes, and no loop.
 fn request_count(size: u32) -> usize
     ensures { result ≡ length (listed size) }
 {
@@ -112,6 +112,7 @@ pub fn small_requests(size: u32, buffer: &mut [u8]) -> Result<usize, Refusal>
     if buffer.len() < count {
         return Err(Refusal::BufferShort);
     }
+    // No heap: one row of fixed length for all requests.
     let mut row = [0u8; ROW];
     let mut writer = Writer::new(buffer, 0);
     write_direction(&mut writer, &mut row, UPRIGHT, entries);

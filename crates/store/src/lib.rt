@@ -23,7 +23,7 @@ fn row_length(row: Row) -> usize
     number_length(row.id) + number_length(row.l) + number_length(row.r) + number_length(row.q)
 }
 
-// How many bytes the rows have.
+// How many bytes the rows have. Crate lines has such a loop, and one like `write_rows`: see there.
 #[tactic(auto, using(crate::proofs::Writing::bytes_most))]
 fn rows_length(rows: RowsInUse<'_>) -> usize
     ensures { result ≡ length (rows_bytes (rows_of rows.entry)) }
@@ -73,6 +73,7 @@ fn store_rows(rows: RowsInUse<'_>, buffer: &mut [u8]) -> Result<usize, Refusal>
     Ok(whole)
 }
 
+// The columns are four slices, as a host lends them and document 01 names them.
 // Stores a table: 10 to 13, then 30. Nothing is written unless all of it is.
 #[tactic(auto, unfolding(stored::specs::Stored::store_answer, stored::specs::Stored::store_buffer))]
 pub fn store(

@@ -48,6 +48,7 @@ fn check_rows(rows: RowsInUse<'_>) -> Result<(), Refusal>
     Ok(())
 }
 
+// The columns are four slices, as a host lends them and document 01 names them.
 // The rows in use, where the columns hold a sound table of `count` rows: 10, 11, 12, 13.
 pub fn check_columns<'a>(
     id: &'a [u32],

@@ -1,5 +1,5 @@
 // The calls for a host in C or Rust; crate zintukor_c exports them (include/zintukor.h). Each answers one number: kind * 4294967296 + value (RULES.md, 17).
-// None has a precondition, keeps state or allocates; a refused call leaves each column and buffer as it found it.
+// The columns are four slices each: the C interface. None has a precondition, keeps state or allocates; a refused call leaves each column and buffer as it found it.
 #![tactic(auto)]
 
 ghost use Rattle.std.specs.Prelude.{◌≡◌, ◌++◌, take, drop};
