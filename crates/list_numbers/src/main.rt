@@ -17,6 +17,7 @@ fn refusal<W: Write>(out: &mut W, why: Refusal) -> io::Result<()> {
     line(out, why.number())
 }
 
+// Goes from one number's end to the next, as far as it reads: no range steps so.
 fn list<W: Write>(out: &mut W, bytes: &[u8]) -> io::Result<()> {
     let mut at = 0;
     while at < bytes.len() {

@@ -26,6 +26,7 @@ pub(crate) fn number_trees(
 {
     let mut p = from;
     let mut rest = area;
+    // From one subtree to the next, by the ends that the columns hold: no range steps so.
     while p < to {
         let end = work.ends[p];
         let Some(child) = rest.next_child(work.sums[p]) else {

@@ -8,6 +8,7 @@ const TABLE_ROOM: usize = 16384;
 const LINE_ROOM: usize = 14;
 
 // The text's buffer is too short for some log of this length.
+#[tactic(auto, unfolding(crate::specs::Room::grow_room), using(crate::proofs::TextRoom::room_same))]
 pub fn no_room(bytes: usize, room: usize) -> bool
     ensures { result ≡ ltb room (grow_room bytes) }
 {
