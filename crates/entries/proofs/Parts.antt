@@ -16,15 +16,6 @@ pub positive_at_lem : (bytes : List ℕ) (at : ℕ) {number : Answer Number} →
 unfolding positive_at
 positive_at_lem bytes at h = ap positive_of h
 
--- its value is the value drawn, judged
-pub positive_drawn : (a : Answer Number) → positive_value (drawn a) ≡ drawn (positive_of a)
-positive_drawn (refused n) = refl
-positive_drawn (answer n) = go (eqb n.value 0)
-  where
-    go : (b : Bool) → cond b (refused 4) (answer n.value) ≡ drawn (cond b (refused 4) (answer n))
-    go true = refl
-    go false = refl
-
 -- what comes after a number that may not be 0, by its value and the place after it
 pub after_positive : {B : Type 0} (a : Answer Number) (f : ℕ → ℕ → Answer B) → then (positive_of a) (λ n. f n.value n.next) ≡ then (positive_value (drawn a)) (λ v. f v (moved a))
 after_positive (refused n) f = refl

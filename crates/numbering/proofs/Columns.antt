@@ -2,13 +2,13 @@
 use mathlib.Core.Path.{◌≡◌, refl, ap, ap₂, sym, ◌∙◌}
 use mathlib.Core.List.{List, [], ◌∷◌, ◌++◌, map, map-append}
 use mathlib.Core.Bool.{Bool}
-use Prim.Native.Nat.{ℕ, suc, ◌+◌, ◌≤◌, ◌<◌}
+use Prim.Native.Nat.{ℕ, suc, ◌+◌, ◌≤◌}
 use native.Mathlib.Omega.{arith}
 use native.Mathlib.Numerals.{add-one}
 use native.Mathlib.Nat.{add-zero, add-suc, suc-add}
 use lib.ListN.{length, set, drop, length-map}
 use lib.Seq.{sets, sets-eq}
-use borrow.Author.Tests.{le-leb, lt-leb}
+use borrow.Author.Tests.{le-leb}
 use Rattle.rules.specs.Answers.{Answer, answer, refused}
 use Rattle.rules.specs.Limits.{greatest}
 use Rattle.request.specs.Entries.{Entry, quota}
@@ -56,6 +56,3 @@ pub numbered : (s ys : List ℕ) (n : ℕ) (numbers : Direction → ℕ → Fore
 numbered s ys n numbers up t e h k m =
     let z : n ≡ 0 + length ys = omega arith in
     rw (le-leb (whole t) greatest h, ← e) (ap (λ i. ys ++ drop i s) z ∙ sym (sets-eq ys s 0 (omega arith)))
-
-pub unnumbered : (s : List ℕ) (numbers : Direction → ℕ → Forest → List ℕ) (up : Bool) (t : Forest) → greatest < whole t → s ≡ sets s 0 (numbers_of numbers up t)
-unnumbered s numbers up t h = rw (lt-leb (whole t) greatest h)

@@ -11,7 +11,7 @@ use Rattle.rules.specs.Answers.{Answer, answer, refused}
 use Rattle.rules.specs.Says.{says}
 use Rattle.rules.specs.declared.Refusal.{Refusal}
 use Rattle.rules.specs.Limits.{most_entries}
-use Rattle.rules.proofs.Answers.{same_answer, never_refused, then_refused}
+use Rattle.rules.proofs.Answers.{same_answer, never_refused}
 use Rattle.request.specs.Forest.{Forest, none, tree, Direction, upright, inverted}
 use Rattle.request.specs.Numbering.{whole, size}
 use Rattle.request.specs.Request.{Request}
@@ -157,10 +157,6 @@ received_as bytes w v (answer q) k e h =
 pub received : (bytes : List ℕ) (w v : Work) {x u z : ℕ} {up : Bool} → answer (record { exploded = x; upright = up; entries = u; quota = z }) ≡ summary (request_of bytes)
     → v ≡ work_after (request_of bytes) w → Received bytes w v x up u z
 received bytes w v e h = received_as bytes w v (request_of bytes) refl e h
-
--- `read_request` refuses
-pub not_received : (bytes : List ℕ) {n : ℕ} → refused n ≡ summary (request_of bytes) → request_of bytes ≡ refused n
-not_received bytes e = then_refused (request_of bytes) _ (sym e)
 
 -- ## Where `read_parts` answers, it leaves the work columns as `read_request` does
 
