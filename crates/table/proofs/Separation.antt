@@ -13,7 +13,8 @@ use Rattle.boxes.specs.Boxes.{box_of, disjoint}
 use Rattle.boxes.specs.declared.Box.{Box}
 use Rattle.distinct.specs.Distinct.{none_is, all_differ}
 use Rattle.separate.specs.Separate.{boxes_of, none_meets, all_disjoint}
-use Rattle.table.specs.Columns.{low_l, low_r, size_of, Columns, row_at, rows_from}
+use Rattle.table.specs.Columns.{low_l, low_r, size_of, Columns, row_at, rows_from, rows}
+use Rattle.table.specs.Inside.Held.{Holds}
 use Rattle.table.specs.declared.Row.{Row}
 use Rattle.table.proofs.InUse.{column_next, column_rows}
 use Rattle.table.specs.Check.{some_row, some_pair, same_id, ranges_meet}
@@ -73,20 +74,30 @@ all_disjoint_lem (w ∷ t) = rw (none_meets_lem w t, all_disjoint_lem t) (not_or
 turned : {a b s t : Bool} → t ≡ a → a ≡ not s → not t ≡ b → s ≡ b
 turned e f g = sym (not-not _) ∙ ap not (sym (e ∙ f)) ∙ g
 
-module _ (u : RowsInUse) {t b : Bool} where
+module _ (c : Columns) (n : ℕ) (h : Holds c n) {t b : Bool} where
   -- 12 is for ids that do not all differ
-  pub twelve : t ≡ all_differ u.id.now → not t ≡ b → some_pair same_id (rows_of u) ≡ b
-  twelve e =
-      let all = take-length u.id.now in
-      turned e (ap all_differ (sym all ∙ column_rows (λ w. w.id) u.id.now (columns_of u) (λ i. refl) 0 (length u.id.now) (omega arith)) ∙ all_differ_lem (rows_of u))
+  pub twelve : t ≡ all_differ (take n c.id) → not t ≡ b → some_pair same_id (rows c n) ≡ b
+  twelve e = turned e (ap all_differ (column_rows (λ w. w.id) c.id c (λ i. refl) 0 n (omega (arith, h.in_id))) ∙ all_differ_lem (rows c n))
 
   -- 13 is for boxes that are not all disjoint
-  pub thirteen : t ≡ all_disjoint (boxes_of u.l.now u.r.now u.q.now) → not t ≡ b → some_pair ranges_meet (rows_of u) ≡ b
+  pub thirteen : t ≡ all_disjoint (boxes_of (take n c.l) (take n c.r) (take n c.q)) → not t ≡ b → some_pair ranges_meet (rows c n) ≡ b
   thirteen e =
+      turned e
+      (ap all_disjoint (boxes_of_lem c 0 n (omega (arith, h.in_l)) (omega (arith, h.in_r)) (omega (arith, h.in_q))) ∙ all_disjoint_lem (rows c n))
+
+-- the same of the rows in use, whose columns are cut to the count
+module _ (u : RowsInUse) where
+  held : Holds (columns_of u) (length u.id.now)
+  held = record { in_id = omega arith; in_l = omega (arith, u.same_l); in_r = omega (arith, u.same_r); in_q = omega (arith, u.same_q) }
+
+  pub twelve_in_use : {t b : Bool} → t ≡ all_differ u.id.now → not t ≡ b → some_pair same_id (rows_of u) ≡ b
+  twelve_in_use e = twelve (columns_of u) (length u.id.now) held (e ∙ ap all_differ (sym (take-length u.id.now)))
+
+  pub thirteen_in_use : {t b : Bool} → t ≡ all_disjoint (boxes_of u.l.now u.r.now u.q.now) → not t ≡ b → some_pair ranges_meet (rows_of u) ≡ b
+  thirteen_in_use e =
       let n = length u.id.now in
       let l : take n u.l.now ≡ u.l.now = take_all n u.l.now (omega (arith, u.same_l)) in
       let r : take n u.r.now ≡ u.r.now = take_all n u.r.now (omega (arith, u.same_r)) in
       let q : take n u.q.now ≡ u.q.now = take_all n u.q.now (omega (arith, u.same_q)) in
-      let same : boxes_of u.l.now u.r.now u.q.now ≡ map box_for (rows_of u) =
-      rw (l, r, q) at (boxes_of_lem (columns_of u) 0 n (omega (arith, u.same_l)) (omega (arith, u.same_r)) (omega (arith, u.same_q))) in
-      turned e (ap all_disjoint same ∙ all_disjoint_lem (rows_of u))
+      let same : boxes_of u.l.now u.r.now u.q.now ≡ boxes_of (take n u.l.now) (take n u.r.now) (take n u.q.now) = rw (l, r, q) in
+      thirteen (columns_of u) n held (e ∙ ap all_disjoint same)

@@ -3,7 +3,7 @@ use Rattle.std.proofs.Common.{not, ap, sym, ◌≡◌, ◌∙◌}
 use Rattle.table.specs.Check.{sound_rows}
 use Rattle.distinct.specs.Distinct.{all_differ}
 use Rattle.separate.specs.Separate.{boxes_of, all_disjoint}
-use Rattle.table.proofs.Separation.{twelve, thirteen}
+use Rattle.table.proofs.Separation.{twelve_in_use, thirteen_in_use}
 use Rattle.table.proofs.checking.check_rows.Goals as goal
 
 pub returns-then-some_value_bad : goal.returns-then-some_value_bad
@@ -13,7 +13,7 @@ returns-then-some_value_bad c = rw (sym c.some_value_bad.ensures ∙ c.if-some_v
 pub returns-then-not-ids_differ : goal.returns-then-not-ids_differ
 unfolding sound_rows
 returns-then-not-ids_differ c =
-    rw (sym c.some_value_bad.ensures ∙ c.if-some_value_bad.false, twelve c.args.rows (c.ids_differ.ensures ∙ ap all_differ c.id.ensures) (ap not c.if-not-ids_differ.true))
+    rw (sym c.some_value_bad.ensures ∙ c.if-some_value_bad.false, twelve_in_use c.args.rows (c.ids_differ.ensures ∙ ap all_differ c.id.ensures) (ap not c.if-not-ids_differ.true))
 
 pub returns-then-not-boxes_separate : goal.returns-then-not-boxes_separate
 unfolding sound_rows
@@ -22,8 +22,8 @@ returns-then-not-boxes_separate c =
     c.boxes_separate.ensures ∙ rw (c.l.ensures, c.r.ensures, c.q.ensures) in
     rw (
       sym c.some_value_bad.ensures ∙ c.if-some_value_bad.false,
-      twelve c.args.rows (c.ids_differ.ensures ∙ ap all_differ c.id.ensures) (ap not c.if-not-ids_differ.false),
-      thirteen c.args.rows e (ap not c.if-not-boxes_separate.true),
+      twelve_in_use c.args.rows (c.ids_differ.ensures ∙ ap all_differ c.id.ensures) (ap not c.if-not-ids_differ.false),
+      thirteen_in_use c.args.rows e (ap not c.if-not-boxes_separate.true),
     )
 
 pub returns : goal.returns
@@ -33,6 +33,6 @@ returns c =
     c.boxes_separate.ensures ∙ rw (c.l.ensures, c.r.ensures, c.q.ensures) in
     rw (
       sym c.some_value_bad.ensures ∙ c.if-some_value_bad.false,
-      twelve c.args.rows (c.ids_differ.ensures ∙ ap all_differ c.id.ensures) (ap not c.if-not-ids_differ.false),
-      thirteen c.args.rows e (ap not c.if-not-boxes_separate.false),
+      twelve_in_use c.args.rows (c.ids_differ.ensures ∙ ap all_differ c.id.ensures) (ap not c.if-not-ids_differ.false),
+      thirteen_in_use c.args.rows e (ap not c.if-not-boxes_separate.false),
     )
