@@ -1,5 +1,5 @@
 -- The items of a script's line: its words, and the numbers that its tokens stand for.
-use Rattle.std.specs.Prelude.{ℕ, zero, suc, ◌+◌, ◌-◌, ◌%◌, ◌^◌, cond, List, [], ◌∷◌, ◌==◌, nat_le, nat_lt, Option, None}
+use Rattle.std.specs.Prelude.{ℕ, zero, suc, ◌+◌, ◌-◌, ◌%◌, ◌^◌, Bool, false, cond, List, [], ◌∷◌, ◌==◌, nat_le, nat_lt, Option, None, Some}
 use Rattle.script.specs.Words.{tokens_of, tokens_left}
 use Rattle.script.specs.declared.Run.{Run}
 use Rattle.script.specs.declared.Run.TheVariants.{One, To, Times}
@@ -30,7 +30,12 @@ member_after m = record { value = (m.value + m.step) % 2 ^ 64; byte = m.byte; le
 abbrev pub number_of : Option ℕ → Member → Item
 number_of section m = Number section m.value m.byte
 
--- the items after a number or a word, so many at most, until the line ends
+-- a word that begins with 02 ends a line's items
+abbrev pub ends : Option ℕ → Bool
+ends None = false
+ends (Some c) = c == 2
+
+-- the items after a number or a word, so many at most, until they end or the line does
 unfoldable pub items_from : ℕ → Option ℕ → Member → List Token → List Item
 items_from zero section m tokens = []
 items_from (suc k) section m [] = cond (nat_lt 0 m.left) (number_of section (member_after m) ∷ items_from k section (member_after m) []) []
@@ -41,7 +46,7 @@ items_from (suc k) section m (Digits n ∷ tokens) =
 items_from (suc k) section m (Letters word ∷ tokens) =
     cond (nat_lt 0 m.left)
     (number_of section (member_after m) ∷ items_from k section (member_after m) (Letters word ∷ tokens))
-    (Word word ∷ items_from k word m tokens)
+    (cond (ends word) [] (Word word ∷ items_from k word m tokens))
 
 abbrev pub items_left : Items → List Item
 items_left s = items_from s.turns s.section s.member (tokens_left s.tokens)

@@ -27,9 +27,13 @@ abbrev pub more_digits : Token → ℕ → Token
 more_digits (Digits n) d = Digits (numeral_with n d)
 more_digits (Letters word) d = Digits (record { run = One; value = d; byte = d })
 
+-- the first letter of a word; 00 begins a number, and 01 leaves a token with nothing
+abbrev pub first_letter : ℕ → Token
+first_letter c = cond (c == 0) (Digits (record { run = One; value = 0; byte = 0 })) (cond (c == 1) (Letters None) (Letters (Some c)))
+
 abbrev pub more_letters : Token → ℕ → Token
 more_letters (Digits n) c = Digits (record { run = run_at c n.value; value = 0; byte = n.byte })
-more_letters (Letters None) c = Letters (Some c)
+more_letters (Letters None) c = first_letter c
 more_letters (Letters (Some word)) c = Letters (Some word)
 
 abbrev pub with_digit_or : Token → ℕ → Option ℕ → Token

@@ -9,6 +9,14 @@ ghost use Rattle.script.specs.Items.{member_after, first_member, items_of, items
 // Most items of a line.
 const MOST_ITEMS: usize = 131072;
 
+// Three first bytes are no letters, so scripts were always read: 00 begins a number, 01 leaves a token with nothing, and the items of a line
+// end where a word begins with 02.
+const NUMBER: u8 = 0;
+
+const NOTHING: u8 = 1;
+
+const END: u8 = 2;
+
 // A number: also `a-b`, the numbers from a to b, and `a*n`, n times a.
 #[derive(Clone, Copy)]
 enum Run {
@@ -157,7 +165,15 @@ impl Token {
                 value: 0,
                 byte: n.byte,
             }),
-            (Token::Letters(None), None) => Token::Letters(Some(c)),
+            (Token::Letters(None), None) => match c {
+                NUMBER => Token::Digits(Numeral {
+                    run: Run::One,
+                    value: 0,
+                    byte: 0,
+                }),
+                NOTHING => self,
+                _ => Token::Letters(Some(c)),
+            },
             (Token::Letters(word), None) => Token::Letters(word),
         }
     }
@@ -230,6 +246,10 @@ impl<'a> Iterator for Items<'a> {
         } else {
             match self.tokens.next()? {
                 Token::Digits(n) => self.member = n.first(),
+                Token::Letters(Some(END)) => {
+                    self.turns = 0;
+                    return None;
+                }
                 Token::Letters(word) => {
                     self.section = word;
                     self.turns -= 1;

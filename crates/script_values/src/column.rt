@@ -6,6 +6,9 @@ use crate::filled::Filled;
 use crate::narrow;
 use script::{Item, Items};
 
+// The name of the section before any word, and where two spaces meet.
+const NO_WORD: u8 = 1;
+
 // At most 257 rows.
 pub type Column = Filled<u32, 257>;
 
@@ -18,11 +21,9 @@ impl Filled<u32, 257> {
         let mut column = Filled::none(0);
         for item in Items::new(line) {
             match item {
-                Item::Number {
-                    section: Some(s),
-                    value,
-                    ..
-                } if s == name => column.push(narrow(value)),
+                Item::Number { section, value, .. } if section.unwrap_or(NO_WORD) == name => {
+                    column.push(narrow(value))
+                }
                 _ => {}
             }
         }
