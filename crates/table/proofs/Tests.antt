@@ -3,6 +3,7 @@ use mathlib.Core.Path.{◌≡◌, refl, ap, sym, ◌∙◌}
 use mathlib.Core.Bool.{Bool, true, false, ◌||◌, true≢false, or_assoc, or-false, or-true}
 use mathlib.Core.List.{List, [], ◌∷◌, ◌++◌}
 use Prim.Native.Nat.{ℕ, ◌+◌, ◌-◌, ◌<◌}
+use Rattle.std.specs.List.{list_any}
 use Rattle.table.specs.Columns.{Columns, row_at, rows_from, rows}
 use Rattle.table.specs.declared.Row.{Row}
 use Rattle.table.specs.Check.{some_row, some_pair}
@@ -24,19 +25,11 @@ pub some_one : (p : Row → Bool) (w : Row) → some_row p (w ∷ []) ≡ p w
 unfolding some_row
 some_one p w = or-false (p w)
 
--- one row of some, and those after it
-module _ (p : Row → Bool) {s t : List Row} {w : Row} (e : s ≡ w ∷ t) where
-  pub first_has : p w ≡ true → some_row p s ≡ true
-  unfolding some_row
-  first_has h = rw (e, h)
-
-  pub first_lacks : p w ≡ false → some_row p s ≡ some_row p t
-  unfolding some_row
-  first_lacks h = rw (e, h)
-
-pub none_left : (p : Row → Bool) {s : List Row} → s ≡ [] → some_row p s ≡ false
+-- a test of some row, in std's word
+pub some_any : (p : Row → Bool) (s : List Row) → list_any p s ≡ some_row p s
 unfolding some_row
-none_left p e = rw e
+some_any p [] = refl
+some_any p (w ∷ s) = ap (λ b. p w || b) (some_any p s)
 
 -- a pair of s and one row more: a pair of s, or a row of s with that one
 pub pair_one : (p : Row → Row → Bool) (s : List Row) (w : Row) → some_pair p (s ++ (w ∷ [])) ≡ (some_pair p s || some_row (λ v. p v w) s)

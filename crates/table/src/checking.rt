@@ -24,12 +24,7 @@ fn value_bad(row: Row) -> bool
 fn some_value_bad(rows: RowsInUse<'_>) -> bool
     ensures { result ≡ some_row value_bad (rows_of rows.entry) }
 {
-    for row in rows {
-        if value_bad(row) {
-            return true;
-        }
-    }
-    false
+    rows.into_iter().any(value_bad)
 }
 
 // 11, 12 and 13 of the rows in use.

@@ -5,6 +5,7 @@ ghost use Rattle.table.specs.Check.{lengths_bad, count_bad};
 
 use rules::MOST_ROWS;
 
+// The columns are four slices, as a host lends them and document 01 names them.
 // 10: lengths differ or not 1 to 256.
 #[tactic(auto, unfolding(crate::specs::Check::lengths_bad))]
 pub fn lengths_bad(id: &[u32], l: &[u32], r: &[u32], q: &[u32]) -> bool

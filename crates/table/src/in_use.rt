@@ -7,6 +7,7 @@ use crate::columns::{count_bad, lengths_bad};
 use rules::Refusal;
 
 // The columns, cut to the count. All four have one length, which is at most 256.
+// They are four slices and not one of rows, since they are the ones that a host lends: nothing is copied.
 #[derive(Clone, Copy)]
 pub struct RowsInUse<'a> {
     id: &'a [u32],
@@ -115,7 +116,7 @@ impl<'a> IntoIterator for RowsInUse<'a> {
     }
 }
 
-// The rows in use from one of them on.
+// The rows in use from one of them on. One index stands for four iterators, which would all be at one place.
 #[derive(Clone, Copy)]
 pub struct RowIter<'a> {
     rows: RowsInUse<'a>,

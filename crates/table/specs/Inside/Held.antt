@@ -1,4 +1,4 @@
--- What the code asks of columns before it reads rows: each has that many.
+-- Each column has so many numbers. The laws of rows speak of such columns.
 use Rattle.std.specs.Prelude.{ℕ, ◌≤◌, length}
 use Rattle.table.specs.Columns.{Columns}
 

@@ -1,15 +1,13 @@
-use Rattle.std.proofs.Common.{sym, ◌∙◌}
+-- `table::checking::some_value_bad` meets its contract.
+use Rattle.std.proofs.Common.{rules, tests, ◌∙◌}
+use Rattle.std.proofs.lemmas.Iterator.Consumers.{YieldsList-from_first}
+use Rattle.std.proofs.lemmas.Iterator.Search.{any_from_yields_List}
 use Rattle.table.specs.Check.{value_bad}
-use Rattle.table.proofs.Tests.{first_has, first_lacks, none_left}
+use Rattle.table.specs.InUse.{rows_of, rows_left}
+use Rattle.table.proofs.Tests.{some_any}
 use Rattle.table.proofs.checking.some_value_bad.Goals as goal
 
-pub returns-then-value_bad : goal.returns-then-value_bad
-returns-then-value_bad c =
-    sym (first_has value_bad c.in-Some.ensures.steps (sym c.value_bad.ensures ∙ c.if-value_bad.true)) ∙ c.loop-row.invariant
-
-pub loop-row-preserved : goal.loop-row-preserved
-loop-row-preserved c =
-    sym (first_lacks value_bad c.in-Some.ensures.steps (sym c.value_bad.ensures ∙ c.if-value_bad.false)) ∙ c.loop-row.invariant
-
 pub returns : goal.returns
-returns c = sym (none_left value_bad c.in-None.ensures.steps.0) ∙ c.loop-row.invariant
+returns c =
+    any_from_yields_List value_bad c.any.new.self _ c.any.result c.any.ensures.ran (YieldsList-from_first (λ x. x) rows_left (rows_of c.args.rows) c.into_iter.ensures.into_iter_gives) (λ x b q k. search (rules, tests))
+    ∙ some_any value_bad (rows_of c.args.rows)
