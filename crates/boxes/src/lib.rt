@@ -27,9 +27,9 @@ impl Box {
         ensures { result ≡ box_of l r quota }
     {
         Box {
-            l: LValue::new(l as u64),
-            r: RValue::new(r as u64),
-            quota: quota as u64,
+            l: LValue::from(l),
+            r: RValue::from(r),
+            quota: u64::from(quota),
         }
     }
 

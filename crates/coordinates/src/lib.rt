@@ -1,8 +1,7 @@
-// The two coordinates of the l–r plane (RULES.md, 3). They are types of their own, and the number of each is private to its module,
-// so that a comparison of an l-value with an r-value can't be written.
+// The two coordinates of the l–r plane (RULES.md, 3). They are types of their own, and their number is private to module axis, whose
+// methods take two of one type: so a comparison of an l-value with an r-value can't be written.
 #![tactic(auto)]
 
 mod axis;
-mod plain;
 
 pub use axis::{Coordinate, LValue, RValue};

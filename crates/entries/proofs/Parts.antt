@@ -4,7 +4,7 @@ use Rattle.rules.specs.Answers.{Answer, answer, refused, then}
 use Rattle.rules.proofs.Answers.{then_same}
 use Rattle.number.specs.declared.Number.{Number}
 use Rattle.number.specs.Number.{number_at}
-use Rattle.reader.specs.Drawing.{drawn, moved}
+use Rattle.reader.specs.Drawing.{drawn, moved, Draws}
 use Rattle.request.specs.Reading.{positive_of, positive_at, entry_at}
 use Rattle.request.specs.declared.EntryRead.{EntryRead}
 use Rattle.entries.specs.Positive.{positive_value}
@@ -54,36 +54,6 @@ three bytes at =
     after_positive b (λ quota q. then (number_at bytes q) (λ children. answer (record { id = id; quota = quota; children = children.value; next = children.next })))
     ∙ then_same (positive_value (drawn b)) _ _ (λ quota _.
     after_number (number_at bytes (moved b)) (λ children next. answer (record { id = id; quota = quota; children = children; next = next }))))
-
--- three draws from a place on, each with the place after it
-pub record Draws (bytes : List ℕ) (at : ℕ) (first second third : Answer ℕ) (next : ℕ) : Type 0 where
-  pub p : ℕ
-  pub q : ℕ
-  pub first_is : first ≡ drawn (number_at bytes at)
-  pub p_is : p ≡ moved (number_at bytes at)
-  pub second_is : second ≡ drawn (number_at bytes p)
-  pub q_is : q ≡ moved (number_at bytes p)
-  pub third_is : third ≡ drawn (number_at bytes q)
-  pub next_is : next ≡ moved (number_at bytes q)
-
--- by a reader that moves on over the same bytes
-pub draws : {bytes b₀ b₁ b₂ : List ℕ} {at a p q next : ℕ} {first second third : Answer ℕ} → b₀ ≡ bytes → a ≡ at
-    → first ≡ drawn (number_at b₀ a) → p ≡ moved (number_at b₀ a) → b₁ ≡ b₀
-    → second ≡ drawn (number_at b₁ p) → q ≡ moved (number_at b₁ p) → b₂ ≡ b₁
-    → third ≡ drawn (number_at b₂ q) → next ≡ moved (number_at b₂ q) → Draws bytes at first second third next
-draws {bytes} {b₁ = b₁} {b₂ = b₂} {at = at} {p = p} {q = q} x y f i u s j v t k =
-    let e : b₁ ≡ bytes = cc in
-    let g : b₂ ≡ bytes = cc in
-    record {
-      p = p;
-      q = q;
-      first_is = rw (x, y) at f;
-      p_is = rw (x, y) at i;
-      second_is = rw e at s;
-      q_is = rw e at j;
-      third_is = rw g at t;
-      next_is = rw g at k;
-    }
 
 module _ {bytes : List ℕ} {at : ℕ} {first second third : Answer ℕ} {next : ℕ} (d : Draws bytes at first second third next) where
   entry_drawn : entry_at bytes at ≡ of_three first second third next

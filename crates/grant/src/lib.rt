@@ -61,8 +61,8 @@ fn checked_grant(
     }
     let grant = Grant {
         feature,
-        l: LValue::new(l as u64),
-        r: RValue::new(r as u64),
+        l: LValue::from(l),
+        r: RValue::from(r),
         first,
         last,
     };

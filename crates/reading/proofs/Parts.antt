@@ -11,7 +11,8 @@ use Rattle.request.specs.Numbering.{whole, size}
 use Rattle.request.specs.Reading.{positive_of, positive_at, TreesRead, trees_at, direction_of, request_of}
 use Rattle.request.specs.Request.{Request}
 use Rattle.entries.specs.Positive.{positive_value}
-use Rattle.entries.proofs.Parts.{Draws, after_positive, after_number}
+use Rattle.reader.specs.Drawing.{Draws}
+use Rattle.entries.proofs.Parts.{after_positive, after_number}
 use Rattle.reading.specs.declared.WalkEnd.{WalkEnd}
 use Rattle.reading.specs.declared.columns.Work.{Work}
 use Rattle.reading.specs.Summary.{is_upright, summary}

@@ -1,7 +1,11 @@
 -- A writer that writes bytes one after another into a lent buffer (RULES.md, 2).
-use Rattle.std.specs.Prelude.{ℕ, ◌+◌, ◌≡◌, cond, List, length}
+use Rattle.std.specs.Prelude.{ℕ, ◌+◌, ◌≡◌, ◌≤◌, cond, List, length}
 use Rattle.rules.specs.Buffers.{room, after}
 use Rattle.writer.specs.declared.Writer.{Writer}
+
+-- the buffer has room for so many bytes from the writer's place on
+abbrev pub HasRoom : Writer → ℕ → Type 0
+HasRoom w n = w.at + n ≤ length w.buffer.now
 
 -- the place after some bytes; where the buffer is too short for them, the place stays
 unfoldable pub place_after : List ℕ → ℕ → List ℕ → ℕ

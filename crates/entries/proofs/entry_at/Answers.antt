@@ -2,7 +2,9 @@
 use Rattle.std.proofs.Common.{ap, sym}
 use Rattle.std.proofs.lemmas.Result.{err_from_is_err_and}
 use Rattle.rules.specs.Says.{says}
-use Rattle.entries.proofs.Parts.{Draws, draws, no_id, no_quota, no_children, all_drawn}
+use Rattle.reader.specs.Drawing.{Draws}
+use Rattle.reader.proofs.Drawing.{draws}
+use Rattle.entries.proofs.Parts.{no_id, no_quota, no_children, all_drawn}
 use Rattle.entries.proofs.entry_at.Goals as goal
 use Rattle.entries.proofs.entry_at.Goals.{After-draw-third}
 

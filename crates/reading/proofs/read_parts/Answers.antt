@@ -2,7 +2,8 @@
 use Rattle.std.proofs.Common.{ap, sym, arith}
 use Rattle.std.proofs.lemmas.Result.{err_from_is_err_and}
 use Rattle.rules.specs.Says.{says}
-use Rattle.entries.proofs.Parts.{Draws, draws}
+use Rattle.reader.specs.Drawing.{Draws}
+use Rattle.reader.proofs.Drawing.{draws}
 use Rattle.reading.proofs.Parts.{Begun, refusal, no_exploded, no_direction, odd_direction, no_count, no_trees, remain, read_whole}
 use Rattle.reading.proofs.Walking.{walk_refused}
 use Rattle.reading.proofs.read_parts.Goals as goal
