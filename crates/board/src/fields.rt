@@ -53,11 +53,11 @@ pub(crate) fn write_state(writer: &mut Writer<'_>, day: u32, days: Window)
     requires { writer.old.at + 8 ≤ length writer.old.buffer.now }
     ensures { WroteAll writer.old writer.new (field (left_in 7 (state_text day days)) 10) }
 {
-    if (days.first <= day) & ((days.last == 0) | (day <= days.last)) {
+    if days.runs(day) {
         let _ = writer.bytes(b"on     \n");
         return;
     }
-    if (days.last != 0) & (days.last < day) {
+    if days.has_ended(day) {
         let _ = writer.bytes(b"ended  \n");
         return;
     }

@@ -3,7 +3,6 @@
 #![tactic(auto)]
 
 ghost use Rattle.std.specs.Prelude.{◌≡◌, ◌-◌};
-ghost use Rattle.renewals.specs.Dating.{is_open, has_ended, yet_to_begin};
 ghost use Rattle.dating.specs.Says.{decision_says};
 ghost use Rattle.dating.specs.Inside.Tally.{latest, run_with, open_with, over_with, coming_with, count_in, endless, unsettled, unread, again, decision_of};
 
@@ -37,28 +36,7 @@ pub struct Tally {
     coming: Option<u32>,
 }
 
-#[tactic(auto, unfolding(renewals::specs::Dating::is_open))]
-fn is_open(w: Window) -> bool
-    ensures { result ≡ is_open w }
-{
-    w.last == 0
-}
-
-#[tactic(auto, unfolding(renewals::specs::Dating::has_ended))]
-fn has_ended(day: u32, w: Window) -> bool
-    ensures { result ≡ has_ended day w }
-{
-    !is_open(w) & (w.last < day)
-}
-
-#[tactic(auto, unfolding(renewals::specs::Dating::yet_to_begin))]
-fn yet_to_begin(day: u32, w: Window) -> bool
-    ensures { result ≡ yet_to_begin day w }
-{
-    day < w.first
-}
-
-// The greater of the day that is kept, if one is, and another.
+// The greater of the day that is kept, if one is, and another. Apart from `earlier`, as it says there.
 #[tactic(auto, unfolding(crate::specs::Inside::Tally::latest))]
 fn latest(known: Option<u32>, day: u32) -> u32
     ensures { result ≡ latest known day }
@@ -66,38 +44,39 @@ fn latest(known: Option<u32>, day: u32) -> u32
     known.map_or(day, |known| known.max(day))
 }
 
-#[tactic(auto, unfolding(crate::specs::Inside::Tally::run_with))]
+#[tactic(auto, unfolding(crate::specs::Inside::Tally::run_with, renewals::specs::Dating::is_open))]
 fn run_with(r: Run, w: Window) -> Run
     ensures { result ≡ run_with r w }
 {
-    if is_open(w) { r } else { r.carry(w) }
+    if w.is_open() { r } else { r.carry(w) }
 }
 
-#[tactic(auto, unfolding(crate::specs::Inside::Tally::open_with))]
+// These three differ in the test, in the day that is kept and in how: one that is handed a test and a day would be no shorter, and its calls longer.
+#[tactic(auto, unfolding(crate::specs::Inside::Tally::open_with, renewals::specs::Dating::is_open))]
 fn open_with(known: Option<u32>, w: Window) -> Option<u32>
     ensures { result ≡ open_with known w }
 {
-    if is_open(w) {
+    if w.is_open() {
         return Some(earlier(known, w.first));
     }
     known
 }
 
-#[tactic(auto, unfolding(crate::specs::Inside::Tally::over_with))]
+#[tactic(auto, unfolding(crate::specs::Inside::Tally::over_with, renewals::specs::Dating::has_ended, renewals::specs::Dating::is_open))]
 fn over_with(day: u32, known: Option<u32>, w: Window) -> Option<u32>
     ensures { result ≡ over_with day known w }
 {
-    if has_ended(day, w) {
+    if w.has_ended(day) {
         return Some(latest(known, w.last));
     }
     known
 }
 
-#[tactic(auto, unfolding(crate::specs::Inside::Tally::coming_with))]
+#[tactic(auto, unfolding(crate::specs::Inside::Tally::coming_with, renewals::specs::Dating::yet_to_begin))]
 fn coming_with(day: u32, known: Option<u32>, w: Window) -> Option<u32>
     ensures { result ≡ coming_with day known w }
 {
-    if yet_to_begin(day, w) {
+    if w.yet_to_begin(day) {
         return Some(earlier(known, w.first));
     }
     known

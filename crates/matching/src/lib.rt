@@ -1,7 +1,7 @@
 // Which grants apply to a pass and a feature (RULES.md, 9), and whether the pass and the day can be asked about.
 #![tactic(auto)]
 
-ghost use Rattle.std.specs.Prelude.{◌≡◌};
+ghost use Rattle.std.specs.Prelude.{◌≡◌, not, ◌&&◌, ◌||◌, eqb, leb, ltb};
 ghost use Rattle.grant.specs.Says.{grant_of};
 ghost use Rattle.matching.specs.Matching.{pass_bad, pass, covers, applies_to, window};
 
@@ -23,7 +23,8 @@ pub struct Window {
     pub last: u32,
 }
 
-// 15, without a feature: pass l or r, or day is 0.
+// 15, without a feature: pass l or r, or day is 0. Apart from the pass: where a feature is asked about, it is tested with it, so that a pass
+// made by its test would only make a second place of the same refusal.
 pub fn pass_bad(l: u32, r: u32, day: u32) -> bool
     ensures { result ≡ pass_bad l r day }
 {
@@ -53,6 +54,33 @@ impl Pass {
         ensures { result ≡ applies_to feature self.l.0 self.r.0 (grant_of g) }
     {
         (g.feature == feature) & self.covered_by(g)
+    }
+}
+
+// What a window says of a day. The contracts are in plain words: the definitions stand in renewals, above.
+impl Window {
+    pub fn is_open(self) -> bool
+        ensures { result ≡ eqb self.last 0 }
+    {
+        self.last == 0
+    }
+
+    pub fn runs(self, day: u32) -> bool
+        ensures { result ≡ (leb self.first day && (eqb self.last 0 || leb day self.last)) }
+    {
+        (self.first <= day) & (self.is_open() | (day <= self.last))
+    }
+
+    pub fn has_ended(self, day: u32) -> bool
+        ensures { result ≡ (not (eqb self.last 0) && ltb self.last day) }
+    {
+        !self.is_open() & (self.last < day)
+    }
+
+    pub fn yet_to_begin(self, day: u32) -> bool
+        ensures { result ≡ ltb day self.first }
+    {
+        day < self.first
     }
 }
 

@@ -16,7 +16,8 @@ pub struct Run {
     pub left: Option<u32>,
 }
 
-// The lesser of the day that is kept, if one is, and another.
+// The lesser of the day that is kept, if one is, and another. Apart from dating's `latest`, which has `max`: one of both that is handed `min` or
+// `max` is no shorter.
 #[tactic(auto, unfolding(crate::specs::Inside::Run::earlier))]
 pub fn earlier(known: Option<u32>, day: u32) -> u32
     ensures { result ≡ earlier known day }

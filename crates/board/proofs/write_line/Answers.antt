@@ -1,5 +1,5 @@
 -- 31, then 30, then the line.
-use Rattle.std.proofs.Common.{sym, ◌∙◌, ltb-false}
+use Rattle.std.proofs.Common.{sym, ◌∙◌}
 use Rattle.grant.specs.Says.{grant_of}
 use Rattle.board.proofs.Laws.{line_undated, line_short, line_written}
 use Rattle.board.proofs.write_line.Goals as goal
@@ -13,9 +13,6 @@ pub returns-then-too_short : goal.returns-then-too_short
 returns-then-too_short c =
     let p = line_short c.args.day (grant_of c.args.g) c.args.writer.now (sym c.undated.ensures ∙ c.if-undated.false) (sym c.too_short.ensures ∙ c.if-too_short.true) in
     record { result_value = p.0; buffer_value = p.1; wrote = p.2 }
-
-pub write_fields-requires : goal.write_fields-requires
-write_fields-requires c = (sym c.undated.ensures ∙ c.if-undated.false, ltb-false _ _ (sym c.too_short.ensures ∙ c.if-too_short.false))
 
 pub returns : goal.returns
 returns c =
