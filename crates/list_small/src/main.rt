@@ -10,7 +10,7 @@ use small_requests::small_requests;
 use std::io;
 use std::io::Read;
 
-// How many bytes of input are read.
+// How many bytes of input are read. Each program reads its own: no library of the engine reads.
 const MOST_BYTES: u64 = 65536;
 
 // How many bytes the longest list has: 264 requests of 22 bytes.
@@ -22,10 +22,7 @@ fn list(size: u32, buffer: &mut [u8]) -> usize
     ensures prefix_len { result ≤ length buffer.new }
     ensures buffer_value { take result buffer.new ≡ list_bytes size }
 {
-    match small_requests(size, buffer) {
-        Ok(n) => n,
-        Err(_) => 0,
-    }
+    small_requests(size, buffer).unwrap_or(0)
 }
 
 fn main(rt: HostRuntime) -> io::Result<()> {
