@@ -13,8 +13,8 @@ fn ranges_in_order(start: &[u32], size: &[u32], order: &[u8; ROW_CAPACITY]) -> b
     ensures { result ≡ true → InOrder start.now size.now order.now (length start.now) }
 {
     let mut past = 0;
-    for k in 0..start.len() {
-        let row = usize::from(order[k]);
+    for place in &order[..start.len()] {
+        let row = usize::from(*place);
         if start.len() <= row {
             return false;
         }

@@ -1,4 +1,4 @@
-// Boxes two by two.
+// Boxes two by two. The columns stay three slices, as a table lends them: no heap, and the quick tests go over two of them at a time.
 ghost use Rattle.std.specs.Prelude.{◌≡◌, ◌<◌, length};
 ghost use Rattle.separate.specs.Separate.{boxes_of, all_disjoint};
 ghost use Rattle.separate.specs.Inside.Pairs.{BoxesAbove};

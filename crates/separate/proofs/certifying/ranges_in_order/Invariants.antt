@@ -3,5 +3,5 @@ use Rattle.std.proofs.Common.{length}
 use Rattle.separate.proofs.Certificate.{Chain}
 use Rattle.separate.proofs.certifying.ranges_in_order.Given as goal
 
-abbrev pub invariant-loop-k : goal.invariant-loop-k
-invariant-loop-k l = Chain l.start l.size l.order (length l.start) l.k l.past
+abbrev pub invariant-loop-place : goal.invariant-loop-place
+invariant-loop-place l = Chain l.start l.size l.order (length l.start) l.place-index l.past
