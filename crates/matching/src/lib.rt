@@ -36,8 +36,8 @@ impl Pass {
         ensures { result ≡ pass l r }
     {
         Pass {
-            l: LValue::new(l as u64),
-            r: RValue::new(r as u64),
+            l: LValue::from(l),
+            r: RValue::from(r),
         }
     }
 

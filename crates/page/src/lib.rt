@@ -21,12 +21,10 @@ fn count_lines(pass: Pass, grants: &[u8]) -> Result<usize, Refusal>
     let mut lines = 0;
     for item in Grants::new(grants) {
         let grant = item?;
-        let applies = pass.covered_by(grant);
-        let late = undated(grant);
-        if late {
+        if undated(grant) {
             return Err(Refusal::Undated);
         }
-        if applies {
+        if pass.covered_by(grant) {
             lines += 1;
         }
     }
@@ -46,10 +44,10 @@ fn write_lines(writer: &mut Writer<'_>, whole: usize, pass: Pass, day: u32, gran
         match item {
             // Not met: the first reading refused nothing.
             Err(_) => return,
-            Ok(grant) => {
-                if pass.covered_by(grant) {
+            Ok(g) => {
+                if pass.covered_by(g) {
                     // Not refused: the grant has dates, and there is room.
-                    let _ = write_line(&mut *writer, day, grant);
+                    let _ = write_line(&mut *writer, day, g);
                 }
             }
         }

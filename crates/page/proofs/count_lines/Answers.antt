@@ -20,21 +20,18 @@ returns-in_err-grant c =
     let p = err_from_is_err_and c.from_residual.result c.from_residual.ensures.1 in
     rw (p.1, p.2) (sym (lines_refused _ _ c.loop-item.lines (rw c.in_err-grant.was at c.in-Some.ensures.steps)) ∙ c.loop-item.invariant.all)
 
-pub returns-then-late : goal.returns-then-late
-returns-then-late c =
+pub returns-then-undated : goal.returns-then-undated
+returns-then-undated c =
     let late : undated (grant_of c.in_ok-grant.grant) ≡ true = search rules in
     sym (lines_undated _ _ c.loop-item.lines (rw c.in_ok-grant.was at c.in-Some.ensures.steps) late) ∙ c.loop-item.invariant.all
 
-pub overflow_add-lines : goal.overflow_add-lines
-overflow_add-lines c = omega (arith, c.loop-item.invariant.few, ap length c.in-Some.ensures.steps)
-
-pub loop-item-preserved-then-applies : goal.loop-item-preserved-then-applies
-loop-item-preserved-then-applies c =
+pub loop-item-preserved-then-covered_by : goal.loop-item-preserved-then-covered_by
+loop-item-preserved-then-covered_by c =
     let e = rw c.in_ok-grant.was at c.in-Some.ensures.steps in
     let no : undated (grant_of c.in_ok-grant.grant) ≡ false = search rules in
     record {
       few = omega (arith, c.loop-item.invariant.few, ap length e);
-      all = sym (lines_applies _ _ c.loop-item.lines e no (sym c.covered_by-applies.ensures ∙ c.if-applies.true)) ∙ c.loop-item.invariant.all;
+      all = sym (lines_applies _ _ c.loop-item.lines e no (sym c.covered_by.ensures ∙ c.if-covered_by.true)) ∙ c.loop-item.invariant.all;
     }
 
 pub loop-item-preserved : goal.loop-item-preserved
@@ -43,7 +40,7 @@ loop-item-preserved c =
     let no : undated (grant_of c.in_ok-grant.grant) ≡ false = search rules in
     record {
       few = omega (arith, c.loop-item.invariant.few, ap length e);
-      all = sym (lines_other _ _ c.loop-item.lines e no (sym c.covered_by-applies.ensures ∙ c.if-applies.false)) ∙ c.loop-item.invariant.all;
+      all = sym (lines_other _ _ c.loop-item.lines e no (sym c.covered_by.ensures ∙ c.if-covered_by.false)) ∙ c.loop-item.invariant.all;
     }
 
 pub returns : goal.returns

@@ -1,16 +1,9 @@
 use mathlib.Core.Path.{sym, ◌∙◌}
-use native.Mathlib.Omega.{arith}
-use Rattle.page.proofs.Writing.{begins, ends, stops, not_refused, without, with_line}
+use Rattle.page.proofs.Writing.{begins, ends, not_refused, without, with_line}
 use Rattle.page.proofs.write_lines.Goals as goal
 
 pub loop-item-init : goal.loop-item-init
 loop-item-init c = rw (c.into_iter-item-iterator.ensures.into_iter_gives, c.new-item-items.ensures) (begins _ _ _ _ _ _ c.requires)
-
-pub overflow_add-end : goal.overflow_add-end
-overflow_add-end c = omega (arith, c.requires.room)
-
-pub returns-then-writer-end : goal.returns-then-writer-end
-returns-then-writer-end c = stops _ _ _ _ _ _ c.loop-item.invariant c.if-writer-end.true
 
 pub returns-in-Err : goal.returns-in-Err
 returns-in-Err c = not_refused _ _ _ _ _ _ c.loop-item.invariant (rw c.in-Err.is at c.in-Some.ensures.steps)
