@@ -1,51 +1,68 @@
 -- The bytes that a script's line gives, item by item.
-use Rattle.std.specs.Prelude.{ℕ, zero, suc, ◌+◌, ◌-◌, cond, List, [], ◌∷◌, ◌==◌, nat_lt, slice_index, Option, None, Some}
+use Rattle.std.specs.Prelude.{ℕ, zero, suc, ◌+◌, ◌-◌, cond, List, [], ◌∷◌, ◌==◌, nat_lt, length, slice_set, slice_index, replicate, Option, None, Some}
 use Rattle.rules.specs.Answers.{or_else}
 use Rattle.rules.specs.Buffers.{written, after}
+use Rattle.writer.specs.declared.Writer.{Writer}
 use Rattle.number.specs.Number.{bytes_of}
 use Rattle.script.specs.Items.{items_of}
 use Rattle.script.specs.declared.Item.{Item}
 use Rattle.script.specs.declared.Item.TheVariants.{Word, Number}
 use Rattle.script_values.specs.Values.{narrowed}
-use Rattle.script_values.specs.Filled.{none_of, with_one}
 use Rattle.script_values.specs.declared.filled.Filled.{Filled}
 
 abbrev pub Bytes : Type 0
 Bytes = Filled ℕ 65536
 
--- a stored number, and an entry of quota 1 with no children, after the bytes that there are
-abbrev pub number_put : ℕ → Bytes → Bytes
-number_put v b = record { items = after b.items b.len (bytes_of (narrowed v)); len = b.len + or_else (written b.items b.len (bytes_of (narrowed v))) 0 }
+-- a buffer, and how many of its bytes are given
+pub record Given : Type 0 where
+  pub count : ℕ
+  pub bytes : List ℕ
 
-abbrev pub entry_put : ℕ → Bytes → Bytes
-entry_put id b = number_put 0 (number_put 1 (number_put id b))
+-- by a writer: those before its place
+abbrev pub given_by : Writer → Given
+given_by w = record { count = w.at; bytes = w.buffer.now }
+
+-- a byte, a stored number, and an entry of quota 1 with no children, after the bytes that are given
+unfoldable pub byte_put : ℕ → Given → Given
+byte_put byte g = cond (nat_lt g.count (length g.bytes)) (record { count = g.count + 1; bytes = slice_set g.bytes g.count byte }) g
+
+unfoldable pub number_put : ℕ → Given → Given
+number_put v g =
+    record { count = g.count + or_else (written g.bytes g.count (bytes_of (narrowed v))) 0; bytes = after g.bytes g.count (bytes_of (narrowed v)) }
+
+abbrev pub entry_put : ℕ → Given → Given
+entry_put id g = number_put 0 (number_put 1 (number_put id g))
 
 -- the bytes from a position on, again and again until there are so many, in the room that is left
-unfoldable pub until_from : ℕ → ℕ → ℕ → Bytes → Bytes
-until_from zero end at b = b
-until_from (suc left) end at b =
-    cond (nat_lt at b.len) (cond (nat_lt b.len end) (until_from left end (at + 1) (with_one 65536 (slice_index b.items at) b)) b) b
+unfoldable pub until_from : ℕ → ℕ → ℕ → Given → Given
+until_from zero end at g = g
+until_from (suc left) end at g =
+    cond (nat_lt at g.count) (cond (nat_lt g.count end) (until_from left end (at + 1) (byte_put (slice_index g.bytes at) g)) g) g
 
-abbrev pub bytes_until : ℕ → ℕ → Bytes → Bytes
-bytes_until end from b = until_from (65536 - b.len) end from b
+unfoldable pub bytes_until : ℕ → ℕ → Given → Given
+bytes_until end from g = until_from (length g.bytes - g.count) end from g
 
 -- a number by its section's first letter: `bytes`, `numbers`, `entries`, `until`
-unfoldable pub item_put : Option ℕ → ℕ → ℕ → ℕ → Bytes → Bytes
-item_put None value byte from b = b
-item_put (Some section) value byte from b =
-    cond (section == 98) (with_one 65536 byte b)
-    (cond (section == 110) (number_put value b) (cond (section == 101) (entry_put value b) (cond (section == 117) (bytes_until value from b) b)))
+unfoldable pub item_put : Option ℕ → ℕ → ℕ → ℕ → Given → Given
+item_put None value byte from g = g
+item_put (Some section) value byte from g =
+    cond (section == 98) (byte_put byte g)
+    (cond (section == 110) (number_put value g) (cond (section == 101) (entry_put value g) (cond (section == 117) (bytes_until value from g) g)))
 
 -- where `until` goes back to after a word: `until` leaves it at the word before it
-abbrev pub from_word : Option ℕ → ℕ → Bytes → ℕ
-from_word None from b = b.len
-from_word (Some word) from b = cond (word == 117) from b.len
+abbrev pub from_word : Option ℕ → ℕ → Given → ℕ
+from_word None from g = g.count
+from_word (Some word) from g = cond (word == 117) from g.count
 
 -- the numbers of a line
-unfoldable pub bytes_from : List Item → ℕ → Bytes → Bytes
-bytes_from [] from b = b
-bytes_from (Number section value byte ∷ items) from b = bytes_from items from (item_put section value byte from b)
-bytes_from (Word word ∷ items) from b = bytes_from items (from_word word from b) b
+unfoldable pub bytes_from : List Item → ℕ → Given → Given
+bytes_from [] from g = g
+bytes_from (Number section value byte ∷ items) from g = bytes_from items from (item_put section value byte from g)
+bytes_from (Word word ∷ items) from g = bytes_from items (from_word word from g) g
 
-abbrev pub bytes_of_line : List ℕ → Bytes
-bytes_of_line line = bytes_from (items_of line) 0 (none_of 65536 0)
+-- in a buffer, and in one of 65536 zeros
+abbrev pub bytes_of_line : List ℕ → List ℕ → Given
+bytes_of_line line buffer = bytes_from (items_of line) 0 (record { count = 0; bytes = buffer })
+
+abbrev pub filled_of : List ℕ → Bytes
+filled_of line = let g = bytes_of_line line (replicate 65536 0) in record { items = g.bytes; len = g.count }

@@ -4,13 +4,13 @@
 ghost use Rattle.std.specs.Prelude.{◌≡◌, ◌≤◌};
 ghost use Rattle.script_values.specs.Values.{narrowed, room_of};
 
-mod bytes;
 mod column;
 mod filled;
+mod putting;
 
-pub use bytes::Bytes;
 pub use column::{Column, Columns};
 pub use filled::Filled;
+pub use putting::{Bytes, bytes};
 
 // A number in 32 bits: the greatest there is where it has more. No conversion of std's does that.
 #[tactic(auto, unfolding(crate::specs::Values::narrowed))]
