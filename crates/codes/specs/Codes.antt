@@ -1,4 +1,5 @@
--- The one number that a call answers outside: a kind and a value (RULES.md, 17). A kind's number stands here once.
+-- The one number that a call answers outside: a kind and a value (RULES.md, 17). A kind's number stands here once for all contracts;
+-- the code's enum has the same (Inside/Kinds).
 use Rattle.std.specs.Prelude.{ℕ, ◌+◌, ◌*◌}
 use Rattle.rules.specs.Answers.{Answer, answer, refused}
 use Rattle.rules.specs.Limits.{greatest}

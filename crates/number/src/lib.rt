@@ -20,7 +20,8 @@ pub struct Number {
 // What the fifth group counts for.
 const FIFTH: u32 = 268435456;
 
-// The number at a position: 1 where the bytes end before it does, 2 where it isn't in its shortest form or is too great.
+// The number at a position: 1 where the bytes end before it does, 2 where it isn't in its shortest form or is too great. Bytes and position are
+// two parameters, as in the definitions; a `Reader` joins them for who draws one after another.
 pub fn number_at(bytes: &[u8], at: usize) -> Result<Number, Refusal>
     ensures { says result ≡ number_at bytes.now at }
 {
@@ -87,7 +88,7 @@ fn fifth_group(bytes: &[u8], at: usize, low: u32) -> Result<Number, Refusal>
     })
 }
 
-// How many bytes a number has, 1 to 5.
+// How many bytes a number has, 1 to 5. Each test says where one more begins, which a logarithm by 128 would hide.
 #[tactic(auto, unfolding(crate::specs::Number::bytes_of), using(crate::proofs::Groups::one_group, crate::proofs::Groups::more_groups))]
 pub fn number_length(value: u32) -> usize
     ensures { result ≡ length (bytes_of value) }

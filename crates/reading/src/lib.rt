@@ -21,6 +21,7 @@ use rules::{GREATEST_DEPTH, MOST_ENTRIES, Refusal};
 #[derive(Clone, Copy)]
 pub struct Summary {
     pub exploded: u32,
+    // A direction is a bool here, in boxes and in numbering: that is all that is asked of it, and what the definitions ask.
     pub upright: bool,
     pub entries: usize,
     pub quota: u64,

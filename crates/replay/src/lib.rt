@@ -5,7 +5,7 @@ ghost use Rattle.std.specs.Prelude.{◌≡◌, false, ◌+◌, ◌*◌, ◌-◌,
 ghost use Rattle.rules.specs.Buffers.{after};
 ghost use Rattle.rules.specs.Says.{says};
 ghost use Rattle.table.specs.Columns.{columns};
-ghost use Rattle.writer.specs.Writing.{WroteAll};
+ghost use Rattle.writer.specs.Writing.{HasRoom, WroteAll};
 ghost use Rattle.lines.specs.Lines.{line_text, columns_bad};
 ghost use Rattle.request_log.specs.Room.{line_room, table_room};
 ghost use Rattle.replay.specs.Replay.{grow_answer, grow_buffer, grow_table};
@@ -20,7 +20,7 @@ use writer::Writer;
 
 // Writes a request's line, at most 14 bytes, for which there is room.
 fn write_answer(writer: &mut Writer<'_>, a: Result<usize, Refusal>)
-    requires line_room_in_bounds { writer.old.at + line_room ≤ length writer.old.buffer.now }
+    requires line_room_in_bounds { HasRoom writer.old line_room }
     requires countable { Countable (says a) }
     ensures { WroteAll writer.old writer.new (line_text (says a)) }
 {

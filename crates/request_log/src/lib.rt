@@ -19,7 +19,7 @@ pub struct Pair {
     pub next: usize,
 }
 
-// A request in a log: where its bytes start, and where they end.
+// A request in a log: where its bytes start, and where they end. Positions, and no slice: the definition's own record.
 #[derive(Clone, Copy)]
 pub struct Part {
     pub start: usize,

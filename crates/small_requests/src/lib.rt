@@ -5,7 +5,7 @@
 ghost use Rattle.std.specs.Prelude.{◌≡◌, ◌+◌, ◌*◌, ◌≤◌, length, take};
 ghost use Rattle.rules.specs.Buffers.{written, after};
 ghost use Rattle.rules.specs.Says.{says};
-ghost use Rattle.writer.specs.Writing.{WroteAll};
+ghost use Rattle.writer.specs.Writing.{HasRoom, WroteAll};
 ghost use Rattle.small.specs.Small.{greatest_size, listed, list_bytes};
 ghost use Rattle.small_requests.specs.Inside.Rows.{row_length, shapes_bytes, direction_bytes};
 
@@ -37,7 +37,7 @@ struct Rest {
 // here, the others' below.
 fn write_shapes(writer: &mut Writer<'_>, row: &mut [u8], done: usize, rest: Rest)
     requires row_len { (length row.old ≡ row_length) × (done + 3 * rest.entries ≤ row_length) × (rest.id + rest.entries ≤ 1 + greatest_size) × (rest.trees ≤ rest.entries) }
-    requires due_in_bounds { writer.old.at + length (shapes_bytes (take done row.old) rest.id rest.entries rest.trees) ≤ length writer.old.buffer.now }
+    requires due_in_bounds { HasRoom writer.old (length (shapes_bytes (take done row.old) rest.id rest.entries rest.trees)) }
     ensures wrote { WroteAll writer.old writer.new (shapes_bytes (take done row.old) rest.id rest.entries rest.trees) }
     ensures row_value { take done row.new ≡ take done row.old }
 {
@@ -66,7 +66,7 @@ fn write_shapes(writer: &mut Writer<'_>, row: &mut [u8], done: usize, rest: Rest
 // Writes the requests of one direction: the smaller tree count first.
 fn write_direction(writer: &mut Writer<'_>, row: &mut [u8], direction: u8, size: u8)
     requires row_len { (length row.old ≡ row_length) × (size ≤ greatest_size) }
-    requires size_in_bounds { writer.old.at + length (direction_bytes direction size) ≤ length writer.old.buffer.now }
+    requires size_in_bounds { HasRoom writer.old (length (direction_bytes direction size)) }
     ensures { WroteAll writer.old writer.new (direction_bytes direction size) }
 {
     row[0] = LEAD - 1 + ENTRY * size;

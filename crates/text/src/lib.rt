@@ -18,7 +18,7 @@ pub fn decimal_length(n: u32) -> usize
     n.max(1).ilog10() as usize + 1
 }
 
-// Writes a number's digits, and moves on past them: 30, and none of them, where the buffer is too short.
+// Writes a number's digits, and moves on past them, by hand, since std's printing has no rule of all or none: 30, and none of them, where the buffer is too short.
 pub fn write_decimal(writer: &mut Writer<'_>, n: u32) -> Result<usize, Refusal>
     ensures result_value { says result ≡ written writer.old.buffer.now writer.old.at (decimal n) }
     ensures wrote { Wrote writer.old writer.new (decimal n) }
