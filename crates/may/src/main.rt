@@ -10,7 +10,7 @@ use std::io;
 use std::io::Read;
 use writer::Writer;
 
-// How many bytes of input are read.
+// How many bytes of input are read. Each program reads its own: no library of the engine reads.
 const MOST_BYTES: u64 = 65536;
 
 // How many bytes the longest line has: `ahead 4294967295` and a line feed.
@@ -23,10 +23,7 @@ fn answer(question: &[u8], text: &mut [u8]) -> usize
     ensures text_value { take result text.new ≡ decision_text (asked question.now) }
 {
     let mut writer = Writer::new(text, 0);
-    match write_decision(&mut writer, decide::question(question)) {
-        Ok(n) => n,
-        Err(_) => 0,
-    }
+    write_decision(&mut writer, decide::question(question)).unwrap_or(0)
 }
 
 fn main(rt: HostRuntime) -> io::Result<()> {
