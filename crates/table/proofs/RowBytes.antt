@@ -4,6 +4,8 @@ use mathlib.Core.List.{List, [], ◌∷◌, ◌++◌, flat_map}
 use Prim.Native.Nat.{ℕ, ◌+◌, ◌≤◌}
 use native.Mathlib.Omega.{arith}
 use lib.ListN.{length, length-append}
+use Rattle.std.specs.List.{sum_by}
+use Rattle.std.proofs.lemmas.List.Concat.{length-flat_map}
 use Rattle.rules.specs.Buffers.{after}
 use Rattle.rules.proofs.Buffers.{after_same, after_none, after_then}
 use Rattle.table.specs.declared.Row.{Row}
@@ -26,6 +28,11 @@ module _ (bytes : Row → List ℕ) where
   pub no_bytes : {s : List Row} → s ≡ [] → flat_map bytes s ≡ []
   unfolding flat_map
   no_bytes e = rw e
+
+  -- how many bytes the rows have, row by row
+  pub sum_bytes : (s : List Row) → sum_by (λ w. length (bytes w)) s ≡ length (flat_map bytes s)
+  unfolding flat_map
+  sum_bytes s = sym (length-flat_map bytes s)
 
   module _ {old : List ℕ} {at : ℕ} {all : List ℕ} where
     pub rest_all : (s : List Row) → flat_map bytes s ≡ all → at + length all ≤ length old → Rest old at all old at (flat_map bytes s)
