@@ -1,10 +1,10 @@
 // A table stored as bytes (RULES.md, 11): count, then id, l, r, q of each row.
 #![tactic(auto)]
 
-ghost use Rattle.std.specs.Prelude.{◌≡◌, ◌+◌, ◌≤◌, length};
+ghost use Rattle.std.specs.Prelude.{◌≡◌, length};
 ghost use Rattle.rules.specs.Buffers.{written, after};
 ghost use Rattle.rules.specs.Says.{says};
-ghost use Rattle.writer.specs.Writing.{WroteAll};
+ghost use Rattle.writer.specs.Writing.{HasRoom, WroteAll};
 ghost use Rattle.table.specs.Columns.{columns};
 ghost use Rattle.table.specs.InUse.{rows_of};
 ghost use Rattle.table.specs.Check.{checked};
@@ -15,6 +15,7 @@ use rules::Refusal;
 use table::{Row, RowsInUse, check_columns};
 use writer::Writer;
 
+// Crate lines has four functions like these, for a row and for the rows: see there.
 // How many bytes a row has, 4 to 20.
 #[tactic(auto, using(number::proofs::Laws::number_count, stored::proofs::Bytes::row_count))]
 fn row_length(row: Row) -> usize
@@ -23,21 +24,16 @@ fn row_length(row: Row) -> usize
     number_length(row.id) + number_length(row.l) + number_length(row.r) + number_length(row.q)
 }
 
-// How many bytes the rows have. Crate lines has such a loop, and one like `write_rows`: see there.
-#[tactic(auto, using(crate::proofs::Writing::bytes_most))]
+// How many bytes the rows have.
 fn rows_length(rows: RowsInUse<'_>) -> usize
     ensures { result ≡ length (rows_bytes (rows_of rows.entry)) }
 {
-    let mut sum = 0;
-    for row in rows {
-        sum += row_length(row);
-    }
-    sum
+    rows.into_iter().map(row_length).sum()
 }
 
 // Writes a row's bytes, for which there is room.
 fn write_row(writer: &mut Writer<'_>, row: Row)
-    requires { writer.old.at + length (row_bytes row) ≤ length writer.old.buffer.now }
+    requires { HasRoom writer.old (length (row_bytes row)) }
     ensures { WroteAll writer.old writer.new (row_bytes row) }
 {
     let _ = write_number(&mut *writer, row.id);
@@ -48,7 +44,7 @@ fn write_row(writer: &mut Writer<'_>, row: Row)
 
 // Writes the rows' bytes, for which there is room.
 fn write_rows(writer: &mut Writer<'_>, rows: RowsInUse<'_>)
-    requires { writer.old.at + length (rows_bytes (rows_of rows)) ≤ length writer.old.buffer.now }
+    requires { HasRoom writer.old (length (rows_bytes (rows_of rows))) }
     ensures { WroteAll writer.old writer.new (rows_bytes (rows_of rows.entry)) }
 {
     for row in rows {
