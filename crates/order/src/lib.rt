@@ -24,13 +24,13 @@ pub enum Ordered {
     Incomparable,
 }
 
-// g is a subgroup of h.
+// g is a subgroup of h. Crate matching has such a test of a pass and a grant: one for both would take a type of l and r that each is turned into
+// first, for one line.
 #[tactic(auto, unfolding(crate::specs::Order::subgroup))]
 fn is_subgroup(g: Row, h: Row) -> bool
     ensures { result ≡ subgroup g.l g.r h.l h.r }
 {
-    LValue::new(u64::from(g.l)).at_most(LValue::new(u64::from(h.l)))
-        & RValue::new(u64::from(g.r)).at_most(RValue::new(u64::from(h.r)))
+    LValue::from(g.l).at_most(LValue::from(h.l)) & RValue::from(g.r).at_most(RValue::from(h.r))
 }
 
 // The order of two groups.
