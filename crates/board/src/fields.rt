@@ -1,6 +1,6 @@
 // The four fields of a line, each with the byte after it. No write here is refused: there is room.
-ghost use Rattle.std.specs.Prelude.{◌≡◌, ◌+◌, ◌≤◌, length};
-ghost use Rattle.writer.specs.Writing.{WroteAll};
+ghost use Rattle.std.specs.Prelude.{◌≡◌, ◌≤◌};
+ghost use Rattle.writer.specs.Writing.{HasRoom, WroteAll};
 ghost use Rattle.text.specs.Decimal.{decimal};
 ghost use Rattle.calendar.specs.Calendar.{date_of, last_dated};
 ghost use Rattle.dates.specs.Dates.{date_text};
@@ -17,7 +17,7 @@ const COLUMNS: usize = 10;
 
 // Writes a feature, right-aligned in 10 columns, and a space.
 pub(crate) fn write_feature(writer: &mut Writer<'_>, feature: u32)
-    requires { writer.old.at + 11 ≤ length writer.old.buffer.now }
+    requires { HasRoom writer.old 11 }
     ensures { WroteAll writer.old writer.new (field (right_in 10 (decimal feature)) 32) }
 {
     let blanks = [SPACE; COLUMNS];
@@ -29,7 +29,7 @@ pub(crate) fn write_feature(writer: &mut Writer<'_>, feature: u32)
 
 // Writes the date of a first day, and a space.
 pub(crate) fn write_first(writer: &mut Writer<'_>, first: u32)
-    requires { (first ≤ last_dated) × (writer.old.at + 11 ≤ length writer.old.buffer.now) }
+    requires { (first ≤ last_dated) × HasRoom writer.old 11 }
     ensures { WroteAll writer.old writer.new (field (left_in 10 (date_text (date_of first))) 32) }
 {
     let _ = write_date(&mut *writer, first);
@@ -38,7 +38,7 @@ pub(crate) fn write_first(writer: &mut Writer<'_>, first: u32)
 
 // Writes the date of a last day, or `open`, left-aligned in 10 columns, and a space.
 pub(crate) fn write_last(writer: &mut Writer<'_>, last: u32)
-    requires { (last ≤ last_dated) × (writer.old.at + 11 ≤ length writer.old.buffer.now) }
+    requires { (last ≤ last_dated) × HasRoom writer.old 11 }
     ensures { WroteAll writer.old writer.new (field (left_in 10 (last_text last)) 32) }
 {
     if last == 0 {
@@ -50,7 +50,7 @@ pub(crate) fn write_last(writer: &mut Writer<'_>, last: u32)
 
 // Writes what a grant's days say of a day, left-aligned in 7 columns, and a line feed.
 pub(crate) fn write_state(writer: &mut Writer<'_>, day: u32, days: Window)
-    requires { writer.old.at + 8 ≤ length writer.old.buffer.now }
+    requires { HasRoom writer.old 8 }
     ensures { WroteAll writer.old writer.new (field (left_in 7 (state_text day days)) 10) }
 {
     if days.runs(day) {

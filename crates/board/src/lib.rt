@@ -3,9 +3,9 @@
 
 mod fields;
 
-ghost use Rattle.std.specs.Prelude.{◌≡◌, false, ◌+◌, ◌≤◌, length};
+ghost use Rattle.std.specs.Prelude.{◌≡◌, false};
 ghost use Rattle.rules.specs.Says.{says};
-ghost use Rattle.writer.specs.Writing.{Wrote, WroteAll};
+ghost use Rattle.writer.specs.Writing.{HasRoom, Wrote, WroteAll};
 ghost use Rattle.grant.specs.Says.{grant_of};
 ghost use Rattle.board.specs.Board.{grant_line, undated, dated_line, line_answer, line_buffer};
 
@@ -29,7 +29,7 @@ pub fn undated(g: Grant) -> bool
 
 // Writes the four fields of a line, for which there is room.
 fn write_fields(writer: &mut Writer<'_>, day: u32, g: Grant)
-    requires { (undated (grant_of g) ≡ false) × (writer.old.at + 41 ≤ length writer.old.buffer.now) }
+    requires { (undated (grant_of g) ≡ false) × HasRoom writer.old 41 }
     ensures { WroteAll writer.old writer.new (grant_line day (grant_of g)) }
 {
     write_feature(&mut *writer, g.feature);

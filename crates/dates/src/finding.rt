@@ -28,7 +28,9 @@ fn month_days(leap: bool, month: u32) -> u32
     }
 }
 
-// How many years after 2000 the year of a day comes. No year has more than 366 days, so that the search does not begin past it.
+// How many years after 2000 the year of a day comes. No year has more than 366 days, so that the search does not begin past it. Not by
+// `partition_point`, which takes seven steps where this takes one or two. The bounds of a day and of a year are said at each function: a type for
+// a day that has a date would be made anew at each call.
 fn year_of(day: u32) -> usize
     requires { (1 ≤ day) × (day ≤ last_dated) }
     ensures { InYear result day }

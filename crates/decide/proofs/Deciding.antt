@@ -1,15 +1,20 @@
 -- Readings of a grant list in bytes: what holds between two of them, what each lessens, and what is decided in the end.
-use mathlib.Core.Path.{◌≡◌, ap, sym, subst, ◌∙◌}
+use mathlib.Core.Path.{◌≡◌, refl, ap, sym, subst, ◌∙◌}
 use mathlib.Core.Bool.{true, false, true≢false}
 use mathlib.Core.List.{List, []}
 use mathlib.Core.Logic.{◌⊎◌, inl, inr}
 use Prim.Native.Nat.{ℕ, ◌<◌, ◌≤◌}
 use native.Mathlib.Omega.{arith}
 use lib.Dec.{eqb}
+use lib.ListN.{length}
 use borrow.Author.Tests.{eqb-false}
 use Rattle.rules.specs.Answers.{Answer, answer, refused, or_else}
 use Rattle.rules.proofs.Answers.{same_answer, then_answer, then_refused}
 use Rattle.rules.proofs.Bools.{or_none}
+use Rattle.number.specs.Number.{number_at}
+use Rattle.number.specs.declared.Number.{Number}
+use Rattle.number.proofs.Laws.{number_ends}
+use Rattle.reader.specs.Drawing.{moved}
 use Rattle.grant.specs.Grant.{Grant, grants_of}
 use Rattle.grant.proofs.Listing.{grants_good}
 use Rattle.matching.specs.Matching.{Window, window, windows, applies_to}
@@ -29,6 +34,14 @@ past_15 feature l r day e =
     let c = or_none (eqb r 0) _ b.1 in
     let z = eqb-false day 0 c.1 in
     omega (arith, z)
+
+-- a place that a draw moves on to lies within the bytes
+pub draw_within : {bytes drawn_from : List ℕ} {place : ℕ} (at : ℕ) → drawn_from ≡ bytes → place ≡ moved (number_at drawn_from at) → place ≤ length bytes
+draw_within {drawn_from = drawn_from} at e m = rw (m, ← e) (go (number_at drawn_from at) refl)
+  where
+    go : (number : Answer Number) → number ≡ number_at drawn_from at → moved number ≤ length drawn_from
+    go (answer n) h = (number_ends drawn_from at (sym h)).1
+    go (refused why) h = omega arith
 
 module _ (feature l r day : ℕ) (bytes : List ℕ) where
   -- the windows of the grants that apply

@@ -10,7 +10,7 @@ ghost use Rattle.decide.specs.Inside.ListReading.{list_read};
 use dating::{Decided, Tally};
 use grant::Grants;
 use matching::{Pass, Window, pass_bad};
-use number::number_at;
+use reader::Reader;
 use rules::Refusal;
 
 // What is asked, once it can be: about a feature, for a pass, on a day.
@@ -67,21 +67,15 @@ pub fn decide(feature: u32, l: u32, r: u32, day: u32, grants: &[u8]) -> Result<D
     Ok(t.decision_of(day))
 }
 
-// A question in bytes: feature, l, r and day (1 or 2 for a bad one, then 15), then a grant list. Each number by its place, and not by the reader:
-// where the list begins is the last one's end.
+// A question in bytes: feature, l, r and day (1 or 2 for a bad one, then 15), then a grant list.
 #[tactic(auto, unfolding(crate::specs::Decision::asked))]
 pub fn question(bytes: &[u8]) -> Result<Decided, Refusal>
     ensures { decided_says result ≡ asked bytes.now }
 {
-    let feature = number_at(bytes, 0)?;
-    let l = number_at(bytes, feature.next)?;
-    let r = number_at(bytes, l.next)?;
-    let day = number_at(bytes, r.next)?;
-    decide(
-        feature.value,
-        l.value,
-        r.value,
-        day.value,
-        &bytes[day.next..],
-    )
+    let mut reader = Reader::new(bytes, 0);
+    let feature = reader.draw()?;
+    let l = reader.draw()?;
+    let r = reader.draw()?;
+    let day = reader.draw()?;
+    decide(feature, l, r, day, &bytes[reader.at..])
 }

@@ -84,9 +84,6 @@ module _ (l r day : ℕ) (bytes : List ℕ) (whole : ℕ) (begun : Writer) where
     unfolding page_text applying flat_map
     ends e = written_out (ap (page_text l r day) (dated_none (rw e at h.reads)))
 
-    pub stops : w.at ≡ begun.at + whole → WroteAll begun w (lines_text l r day bytes)
-    stops e = written_out (none (page_text l r day h.grants) (omega (arith, e, text_count, h.wrote.place)))
-
     -- an item is a grant
     pub not_refused : {C : Type 0} {n : ℕ} {rest : List (Answer Grant)} → left ≡ refused n ∷ rest → C
     not_refused {n = n} {rest} e = dated_never n rest (rw e at h.reads)

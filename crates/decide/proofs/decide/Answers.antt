@@ -1,12 +1,8 @@
 use mathlib.Core.Path.{ap, sym, ◌∙◌}
-use mathlib.Core.Logic.{inl}
 use Rattle.std.proofs.lemmas.Result.{err_from_is_err_and}
 use Rattle.rules.specs.Answers.{answer}
 use Rattle.decide.proofs.Deciding.{read_on, read_refused, read_through}
 use Rattle.decide.proofs.decide.Goals as goal
-
-pub loop-asked-init : goal.loop-asked-init
-loop-asked-init c = record { asked = sym c.question_bad.ensures ∙ c.if-question_bad.false; made = inl c.unread-t.ensures }
 
 pub returns-in_err-t : goal.returns-in_err-t
 returns-in_err-t c =
