@@ -10,7 +10,7 @@ use rules::MOST_ROWS;
 use std::io;
 use std::io::Read;
 
-// How many bytes of a log are read.
+// How many bytes of a log are read. Each program reads its own input: no library of the engine reads.
 const MOST_BYTES: usize = 65536;
 
 // A column of the table.
@@ -41,10 +41,7 @@ fn write_text(log: &[u8], text: &mut [u8]) -> usize
     let mut l = column();
     let mut r = column();
     let mut q = column();
-    match replay::grow(log, &mut id, &mut l, &mut r, &mut q, text) {
-        Some(n) => n,
-        None => 0,
-    }
+    replay::grow(log, &mut id, &mut l, &mut r, &mut q, text).unwrap_or(0)
 }
 
 fn main(rt: HostRuntime) -> io::Result<()> {
