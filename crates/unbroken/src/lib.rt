@@ -30,7 +30,7 @@ pub fn earlier(known: Option<u32>, day: u32) -> u32
 fn follows_from(until: u32, day: u32) -> bool
     ensures { result ≡ follows_from until day }
 {
-    day as u64 <= until as u64 + 1
+    u64::from(day) <= u64::from(until) + 1
 }
 
 // The day that is kept, if one is, follows on.

@@ -1,8 +1,9 @@
 -- The two readings of a page's list: how many lines the page has, and the lines.
-use Rattle.std.specs.Prelude.{ℕ, ◌+◌, ◌≤◌, ◌≡◌, List, [], length}
+use Rattle.std.specs.Prelude.{ℕ, ◌≡◌, List, [], length}
 use Rattle.rules.specs.Answers.{Answer, answer, then, or_else}
 use Rattle.grant.specs.Grant.{Grant, grants_by}
 use Rattle.writer.specs.declared.Writer.{Writer}
+use Rattle.writer.specs.Writing.{HasRoom}
 use Rattle.page.specs.Page.{dated_grant_at, applying, page_text}
 
 unfoldable pub lines_of : (l r : ℕ) → List ℕ → Answer ℕ
@@ -17,4 +18,4 @@ pub record Fits (l r day : ℕ) (bytes : List ℕ) (whole : ℕ) (w : Writer) : 
   pub grants : List Grant
   pub reads : grants_by dated_grant_at bytes ≡ answer grants
   pub count : length (page_text l r day grants) ≡ whole
-  pub room : w.at + whole ≤ length w.buffer.now
+  pub room : HasRoom w whole
