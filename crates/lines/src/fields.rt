@@ -1,6 +1,6 @@
 // A number and the byte after it.
-ghost use Rattle.std.specs.Prelude.{◌≡◌, ◌+◌, ◌≤◌, length};
-ghost use Rattle.writer.specs.Writing.{WroteAll};
+ghost use Rattle.std.specs.Prelude.{◌≡◌, ◌+◌, length};
+ghost use Rattle.writer.specs.Writing.{HasRoom, WroteAll};
 ghost use Rattle.text.specs.Decimal.{decimal};
 ghost use Rattle.lines.specs.Lines.{field_text};
 
@@ -21,7 +21,7 @@ pub(crate) fn field_length(n: u32) -> usize
 
 // Writes a number and the byte after it, for which there is room.
 pub(crate) fn write_field(writer: &mut Writer<'_>, n: u32, last: u8)
-    requires { writer.old.at + length (field_text n last) ≤ length writer.old.buffer.now }
+    requires { HasRoom writer.old (length (field_text n last)) }
     ensures { WroteAll writer.old writer.new (field_text n last) }
 {
     let _ = write_decimal(&mut *writer, n);

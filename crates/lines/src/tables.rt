@@ -1,8 +1,8 @@
 // The table as text: a heading, and a line for each row.
-ghost use Rattle.std.specs.Prelude.{◌≡◌, ◌+◌, ◌≤◌, length};
+ghost use Rattle.std.specs.Prelude.{◌≡◌, length};
 ghost use Rattle.rules.specs.Buffers.{written};
 ghost use Rattle.rules.specs.Says.{says};
-ghost use Rattle.writer.specs.Writing.{Wrote, WroteAll};
+ghost use Rattle.writer.specs.Writing.{HasRoom, Wrote, WroteAll};
 ghost use Rattle.table.specs.Columns.{columns};
 ghost use Rattle.table.specs.InUse.{rows_of};
 ghost use Rattle.lines.specs.Lines.{row_text, rows_text, table_text, table_answer, table_buffer};
@@ -12,6 +12,8 @@ use rules::Refusal;
 use table::{Row, RowsInUse};
 use writer::Writer;
 
+// Crate store has four functions like these, for a row and for the rows: one of each for both would take closures with contracts longer
+// than the functions.
 // How many bytes a row has, 8 to 44.
 #[tactic(auto, using(text::proofs::Laws::decimal_count, crate::proofs::Laws::row_count, crate::proofs::Laws::field_count))]
 fn row_length(row: Row) -> usize
@@ -20,22 +22,17 @@ fn row_length(row: Row) -> usize
     field_length(row.id) + field_length(row.l) + field_length(row.r) + field_length(row.q)
 }
 
-// How many bytes the rows have. Crate store has such a loop, and one like `write_rows`: a function for both would take closures with contracts
-// longer than the loops.
+// How many bytes the rows have.
 fn rows_length(rows: RowsInUse<'_>) -> usize
     ensures { result ≡ length (rows_text (rows_of rows.entry)) }
 {
-    let mut sum = 0;
-    for row in rows {
-        sum += row_length(row);
-    }
-    sum
+    rows.into_iter().map(row_length).sum()
 }
 
 // Writes a row, for which there is room, as id, l, r, quota.
 #[tactic(auto, using(crate::proofs::Laws::row_count))]
 fn write_row(writer: &mut Writer<'_>, row: Row)
-    requires { writer.old.at + length (row_text row) ≤ length writer.old.buffer.now }
+    requires { HasRoom writer.old (length (row_text row)) }
     ensures { WroteAll writer.old writer.new (row_text row) }
 {
     write_field(&mut *writer, row.id, SPACE);
@@ -46,7 +43,7 @@ fn write_row(writer: &mut Writer<'_>, row: Row)
 
 // Writes the rows, for which there is room.
 fn write_rows(writer: &mut Writer<'_>, rows: RowsInUse<'_>)
-    requires { writer.old.at + length (rows_text (rows_of rows)) ≤ length writer.old.buffer.now }
+    requires { HasRoom writer.old (length (rows_text (rows_of rows))) }
     ensures { WroteAll writer.old writer.new (rows_text (rows_of rows.entry)) }
 {
     for row in rows {
@@ -69,6 +66,7 @@ fn write_whole(writer: &mut Writer<'_>, rows: RowsInUse<'_>) -> Result<usize, Re
     Ok(whole)
 }
 
+// The columns are four slices: the call tests them itself, 10, for a host that has no rows in use at hand.
 // Writes the heading and each row: 10 where the columns don't hold the count, then 30, and none of it, where the buffer is too short.
 pub fn write_table(
     writer: &mut Writer<'_>,
