@@ -2,7 +2,7 @@
 #![tactic(auto)]
 
 use script::{command, given};
-use script_values::{narrow, room};
+use script_values::narrow;
 use show::Shown;
 use small_requests::small_requests;
 use std::io;
@@ -10,13 +10,12 @@ use std::io::Write;
 
 // Lists the small requests of a size in so many bytes.
 fn list<W: Write>(out: &mut W, line: &[u8]) -> io::Result<()> {
-    let mut buffer = show::unwritten();
-    let n = room(given(line, 1));
-    let written = small_requests(narrow(given(line, 0)), &mut buffer[0..n]);
-    show::answer(out, written.map(Shown::Bytes))?;
-    show::buffer(out, &buffer, 0)
+    show::written(out, given(line, 1), false, |buffer| {
+        small_requests(narrow(given(line, 0)), buffer).map(Shown::Bytes)
+    })
 }
 
+// Each program's own calls, by their letters: one `main` for all would be no plainer.
 fn main(rt: HostRuntime) -> io::Result<()> {
     show::run(&rt, |out, line| match command(line) {
         Some(b's') => list(out, line),

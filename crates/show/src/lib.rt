@@ -7,32 +7,36 @@ ghost use Rattle.show.specs.Shown.{used_of, between_of};
 ghost use Rattle.show.specs.declared.Shown.TheVariants.{Yes, Not};
 
 use rules::Refusal;
-use script_values::Columns;
-use std::io::{Read, Write};
+use script_values::{Columns, room};
+use std::io::{BufWriter, Printer, Read, Write};
 use std::{fmt, io};
 
 // How many bytes of input are read.
 const MOST_BYTES: u64 = 65536;
 
-// Prints each line of a script that is read, with what its call prints. Text after the last line feed is no line. A call asks nothing of
-// a line.
-pub fn run<F: Fn(&mut Vec<u8>, &[u8]) -> io::Result<()>>(
-    rt: &HostRuntime,
+// Where a test program's output goes, as it comes.
+pub type Out<'a> = BufWriter<Printer<'a, HostRuntime>>;
+
+// Prints each line of a script that is read, with what its call prints. Text after the last line feed is no line.
+// The `requires`: no function that calls what it is given can be without, every closure without a `requires` meets it, and test programs
+// alone call this.
+pub fn run<'a, F: Fn(&mut Out<'a>, &[u8]) -> io::Result<()>>(
+    rt: &'a HostRuntime,
     call: F,
 ) -> io::Result<()>
     requires { F.IsAlwaysCallable call }
 {
     let mut script = Vec::new(rt.alloc());
     rt.stdin().take(MOST_BYTES).read_to_end(&mut script)?;
-    let mut out = Vec::new(rt.alloc());
+    let mut out = BufWriter::new(rt.alloc(), io::writer(rt))?;
     for piece in script.split_inclusive(|c| *c == b'\n') {
         if let Some(line) = piece.strip_suffix(b"\n") {
-            out.extend_from_slice(line)?;
+            out.write_all(line)?;
             call(&mut out, line)?;
-            out.push(b'\n')?;
+            out.write_all(b"\n")?;
         }
     }
-    rt.write_all(&out)
+    out.flush()
 }
 
 // What a call finds.
@@ -108,18 +112,16 @@ pub fn unwritten() -> [u8; 65536]
     [0xEE; 65536]
 }
 
-// Where the EE at the end begin.
-#[tactic(auto, using(crate::proofs::Laws::used_none, crate::proofs::Laws::used_here, crate::proofs::Laws::used_before))]
+// Where the EE at the end begin. A `match`, since by `map_or` the proof did not close.
+#[tactic(auto, using(crate::proofs::Laws::used_all))]
 fn used(s: &[u8]) -> usize
     ensures upper_bound { result ≤ length s.now }
     ensures value { result ≡ used_of (length s.now) s.now }
 {
-    for i in (0..s.len()).rev() {
-        if s[i] != 0xEE {
-            return i + 1;
-        }
+    match s.iter().rposition(|b| *b != 0xEE) {
+        Some(i) => i + 1,
+        None => 0,
     }
-    0
 }
 
 // So many of a buffer's bytes as text, or all in hexadecimal but the EE at its end, which are counted.
@@ -136,6 +138,26 @@ pub fn buffer<W: Write>(out: &mut W, s: &[u8], as_text: usize) -> io::Result<()>
         }
         _ => Ok(()),
     }
+}
+
+// What a call answers that writes into so many bytes of a buffer, and the buffer; what it wrote is text or stored bytes. The `requires` is
+// there as at `run`.
+pub fn written<W: Write, F: FnOnce(&mut [u8]) -> Result<Shown, Refusal>>(
+    out: &mut W,
+    most: u64,
+    as_text: bool,
+    call: F,
+) -> io::Result<()>
+    requires { F.IsAlwaysCallable call }
+{
+    let mut bytes = unwritten();
+    let found = call(&mut bytes[..room(most)]);
+    answer(out, found)?;
+    let text = match found {
+        Ok(Shown::Bytes(n)) if as_text => n,
+        _ => 0,
+    };
+    buffer(out, &bytes, text)
 }
 
 // A number stands between two that are equal to it, or one less and one more.
