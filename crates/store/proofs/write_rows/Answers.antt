@@ -1,13 +1,8 @@
-use Rattle.std.proofs.Common.{length, refl, ap, ◌∙◌, arith}
-use Rattle.stored.specs.Stored.{row_bytes, rows_bytes}
-use Rattle.table.proofs.RowBytes.{rest_all, rest_room, rest_next, rest_none, next_length, no_bytes}
+use Rattle.std.proofs.Common.{length, ap, ◌∙◌, arith}
+use Rattle.stored.specs.Stored.{row_bytes}
+use Rattle.table.proofs.RowBytes.{rest_room, rest_next, rest_none, next_length, no_bytes}
 use Rattle.writer.proofs.Writing.{wrote_room}
 use Rattle.store.proofs.write_rows.Goals as goal
-
-pub loop-row-init : goal.loop-row-init
-loop-row-init c =
-    let e = ap rows_bytes c.into_iter-row-iterator.ensures.into_iter_gives in
-    record { rest = rest_all row_bytes _ e c.requires; place = omega (arith, ap length e); same_reference = refl }
 
 pub write_row-requires : goal.write_row-requires
 write_row-requires c = rest_room row_bytes c.loop-row.invariant.rest c.in-Some.ensures.steps
