@@ -12,6 +12,7 @@ use rules::Refusal;
 use stored::RowRead;
 use table::{Row, check_columns, count_bad, lengths_bad};
 
+// By positions, as the definitions of a stored table go: a reader would be one crate more below this one, for the four draws of a row.
 // The row at a position: 1, 2.
 #[tactic(auto, unfolding(stored::specs::Stored::row_read))]
 fn row_at(bytes: &[u8], at: usize) -> Result<RowRead, Refusal>

@@ -1,4 +1,4 @@
-// The columns that rows are read into, as long as columns may be: no heap, and the check takes columns.
+// The columns that rows are read into, as long as columns may be: no heap, and four arrays, not one of rows, since the check takes columns.
 ghost use Rattle.std.specs.Prelude.{◌≡◌, ◌<◌};
 ghost use Rattle.rules.specs.Capacities.{row_capacity};
 ghost use Rattle.load.specs.Work.{work_columns, set_row};
