@@ -25,6 +25,7 @@ fn id_taken(id: &[u32], exploded: u32, x: u32) -> bool
     x != exploded && id.contains(&x)
 }
 
+// Each rule takes the numbers that its definition speaks of: a struct of the table's ids, the exploded id and the entries' ids would hide which.
 // 22: another entry's id is in the table.
 fn some_id_taken(id: &[u32], exploded: u32, ids: &[u32]) -> bool
     ensures { result ≡ some_id (taken_in exploded id.now) ids.now }
@@ -68,7 +69,7 @@ pub fn judge(
             return Err(Refusal::IdTwice);
         }
     }
-    if quota != value_at(q, own) as u64 {
+    if quota != u64::from(value_at(q, own)) {
         return Err(Refusal::QuotaSum);
     }
     if room < id.len() + ids.len() - 1 {
