@@ -57,7 +57,7 @@ impl Pass {
     }
 }
 
-// What a window says of a day. The contracts are in plain words: the definitions stand in renewals, above.
+// What a window says of a day. The contracts spell out what renewals defines, which stands on this crate.
 impl Window {
     pub fn is_open(self) -> bool
         ensures { result ≡ eqb self.last 0 }
