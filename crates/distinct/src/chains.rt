@@ -14,7 +14,7 @@ const SLOTS: usize = 256;
 fn slot(x: u32) -> usize
     ensures { (result ≡ slot_of x) × (result < slots) }
 {
-    (x as u64 * 2654435769 / 16777216 % 256) as usize
+    (u64::from(x) * 2654435769 / 16777216 % 256) as usize
 }
 
 // One of the first `count` ids is x, from a link of x's slot on.
