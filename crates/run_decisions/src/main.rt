@@ -4,7 +4,7 @@
 use dating::Decided;
 use rules::Refusal;
 use script::{command, given};
-use script_values::{Bytes, narrow, room};
+use script_values::{Bytes, narrow};
 use show::Shown;
 use std::io;
 use std::io::Write;
@@ -34,15 +34,13 @@ fn decide(line: &[u8]) -> Result<Shown, Refusal> {
 
 // Writes the line that `may` prints of a question into so many bytes.
 fn may<W: Write>(out: &mut W, line: &[u8]) -> io::Result<()> {
-    let mut buffer = show::unwritten();
-    let n = room(given(line, 0));
-    let decided = decide::question(Bytes::of(line).as_slice());
-    let mut writer = Writer::new(&mut buffer[0..n], 0);
-    let written = decision_line::write_decision(&mut writer, decided);
-    show::answer(out, written.map(Shown::Bytes))?;
-    show::buffer(out, &buffer, written.unwrap_or(0))
+    show::written(out, given(line, 0), true, |buffer| {
+        let decided = decide::question(Bytes::of(line).as_slice());
+        decision_line::write_decision(&mut Writer::new(buffer, 0), decided).map(Shown::Bytes)
+    })
 }
 
+// Each program's own calls, by their letters: one `main` for all would be no plainer.
 fn main(rt: HostRuntime) -> io::Result<()> {
     show::run(&rt, |out, line| match command(line) {
         Some(b'd') => show::answer(out, decide(line)),

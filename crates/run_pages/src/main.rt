@@ -3,7 +3,7 @@
 
 use dates::write_date;
 use script::{command, given};
-use script_values::{Bytes, narrow, room};
+use script_values::{Bytes, narrow};
 use show::Shown;
 use std::io;
 use std::io::Write;
@@ -11,27 +11,23 @@ use writer::Writer;
 
 // Writes the date of a day into so many bytes.
 fn date<W: Write>(out: &mut W, line: &[u8]) -> io::Result<()> {
-    let mut buffer = show::unwritten();
-    let n = room(given(line, 1));
-    let mut writer = Writer::new(&mut buffer[0..n], 0);
-    let written = write_date(&mut writer, narrow(given(line, 0)));
-    show::answer(out, written.map(Shown::Bytes))?;
-    show::buffer(out, &buffer, written.unwrap_or(0))
+    show::written(out, given(line, 1), true, |buffer| {
+        write_date(&mut Writer::new(buffer, 0), narrow(given(line, 0))).map(Shown::Bytes)
+    })
 }
 
 // Writes the page of a pass on a day into so many bytes.
 fn page<W: Write>(out: &mut W, line: &[u8]) -> io::Result<()> {
-    let mut buffer = show::unwritten();
-    let n = room(given(line, 3));
-    let written = page::page(
-        narrow(given(line, 0)),
-        narrow(given(line, 1)),
-        narrow(given(line, 2)),
-        Bytes::of(line).as_slice(),
-        &mut buffer[0..n],
-    );
-    show::answer(out, written.map(Shown::Bytes))?;
-    show::buffer(out, &buffer, written.unwrap_or(0))
+    show::written(out, given(line, 3), true, |buffer| {
+        page::page(
+            narrow(given(line, 0)),
+            narrow(given(line, 1)),
+            narrow(given(line, 2)),
+            Bytes::of(line).as_slice(),
+            buffer,
+        )
+        .map(Shown::Bytes)
+    })
 }
 
 // Each program's own calls, by their letters: one `main` for all would be no plainer.

@@ -56,6 +56,7 @@ fn order(line: &[u8]) -> Result<Shown, Refusal> {
     })
 }
 
+// Each program's own calls, by their letters: one `main` for all would be no plainer.
 fn main(rt: HostRuntime) -> io::Result<()> {
     show::run(&rt, |out, line| match command(line) {
         Some(b'f') => fresh(out, line),
