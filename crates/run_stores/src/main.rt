@@ -2,7 +2,7 @@
 #![tactic(auto)]
 
 use script::{command, given};
-use script_values::{Bytes, Columns, room};
+use script_values::{Bytes, Columns};
 use show::Shown;
 use std::io;
 use std::io::Write;
@@ -23,18 +23,17 @@ fn load<W: Write>(out: &mut W, line: &[u8]) -> io::Result<()> {
 // Stores columns in so many bytes.
 fn store<W: Write>(out: &mut W, line: &[u8]) -> io::Result<()> {
     let columns = Columns::of(line);
-    let mut buffer = show::unwritten();
-    let n = room(given(line, 1));
-    let written = store::store(
-        columns.id.as_slice(),
-        columns.l.as_slice(),
-        columns.r.as_slice(),
-        columns.q.as_slice(),
-        given(line, 0) as usize,
-        &mut buffer[0..n],
-    );
-    show::answer(out, written.map(Shown::Bytes))?;
-    show::buffer(out, &buffer, 0)
+    show::written(out, given(line, 1), false, |buffer| {
+        store::store(
+            columns.id.as_slice(),
+            columns.l.as_slice(),
+            columns.r.as_slice(),
+            columns.q.as_slice(),
+            given(line, 0) as usize,
+            buffer,
+        )
+        .map(Shown::Bytes)
+    })
 }
 
 // Each program's own calls, by their letters: one `main` for all would be no plainer.
