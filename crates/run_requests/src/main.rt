@@ -2,7 +2,7 @@
 #![tactic(auto)]
 
 use script::{command, given};
-use script_values::{Bytes, Columns, room};
+use script_values::{Bytes, Columns};
 use show::Shown;
 use std::io;
 use std::io::Write;
@@ -24,18 +24,17 @@ fn refine<W: Write>(out: &mut W, line: &[u8]) -> io::Result<()> {
 // Carries out a log, with so many bytes for its text.
 fn grow<W: Write>(out: &mut W, line: &[u8]) -> io::Result<()> {
     let mut columns = Columns::of(line);
-    let mut buffer = show::unwritten();
-    let n = room(given(line, 0));
-    let grown = replay::grow(
-        Bytes::of(line).as_slice(),
-        columns.id.as_mut_slice(),
-        columns.l.as_mut_slice(),
-        columns.r.as_mut_slice(),
-        columns.q.as_mut_slice(),
-        &mut buffer[0..n],
-    );
-    show::answer(out, Ok(grown.map_or(Shown::NoRoom, Shown::Bytes)))?;
-    show::buffer(out, &buffer, grown.unwrap_or(0))?;
+    show::written(out, given(line, 0), true, |buffer| {
+        let grown = replay::grow(
+            Bytes::of(line).as_slice(),
+            columns.id.as_mut_slice(),
+            columns.l.as_mut_slice(),
+            columns.r.as_mut_slice(),
+            columns.q.as_mut_slice(),
+            buffer,
+        );
+        Ok(grown.map_or(Shown::NoRoom, Shown::Bytes))
+    })?;
     show::columns(out, &columns)
 }
 
