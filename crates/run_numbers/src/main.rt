@@ -17,7 +17,8 @@ fn number<W: Write>(out: &mut W, bytes: &[u8], at: u64) -> io::Result<()> {
     number.map_or(Ok(()), |n| write!(out, " {}", n.next))
 }
 
-// Writes a number: its value, the position, and the bytes of the buffer. Its length comes after the answer.
+// Writes a number: its value, the position, and the bytes of the buffer. Its length comes between the answer and the buffer, so
+// `show::written` doesn't serve.
 fn write<W: Write>(out: &mut W, line: &[u8]) -> io::Result<()> {
     let mut buffer = show::unwritten();
     let value = narrow(given(line, 0));
@@ -91,6 +92,7 @@ fn call<W: Write>(out: &mut W, line: &[u8]) -> io::Result<()> {
     }
 }
 
+// Each program's own calls, by their letters: one `main` for all would be no plainer.
 fn main(rt: HostRuntime) -> io::Result<()> {
     show::run(&rt, |out, line| call(out, line))
 }
