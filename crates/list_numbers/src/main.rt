@@ -5,7 +5,7 @@ use rules::Refusal;
 use std::io;
 use std::io::{BufWriter, Read, Write};
 
-// How many bytes of input are read.
+// How many bytes of input are read. Each program reads its own: no library of the engine reads.
 const MOST_BYTES: u64 = 65536;
 
 fn line<W: Write>(out: &mut W, value: u32) -> io::Result<()> {
@@ -17,7 +17,7 @@ fn refusal<W: Write>(out: &mut W, why: Refusal) -> io::Result<()> {
     line(out, why.number())
 }
 
-// Goes from one number's end to the next, as far as it reads: no range steps so.
+// A number has 1 to 5 bytes and the next begins where it ends, so no range steps so, and an iterator would be this loop in a struct.
 fn list<W: Write>(out: &mut W, bytes: &[u8]) -> io::Result<()> {
     let mut at = 0;
     while at < bytes.len() {
