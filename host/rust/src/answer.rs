@@ -93,7 +93,8 @@ mod tests {
             ("NEVER", kind::NEVER),
         ] {
             assert!(header.contains(&format!("#define ZINTUKOR_{name} {number} ")), "{name} in the header");
-            assert!(engine.contains(&format!("const {name}: u32 = {number};")), "{name} in the engine");
+            let case: String = name.split('_').map(|word| word[..1].to_owned() + &word[1..].to_lowercase()).collect();
+            assert!(engine.contains(&format!("    {case} = {number},\n")), "{name} in the engine");
         }
     }
 
