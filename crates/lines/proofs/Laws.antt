@@ -1,5 +1,5 @@
 -- How many bytes lines and tables have, and what is written of them.
-use mathlib.Core.Path.{◌≡◌, refl, ap, sym, ◌∙◌}
+use mathlib.Core.Path.{◌≡◌, refl, ap, sym, subst, ◌∙◌}
 use mathlib.Core.Bool.{Bool, true, false, cond}
 use mathlib.Core.List.{List, [], ◌∷◌, ◌++◌}
 use Prim.Native.Nat.{ℕ, ◌+◌, ◌*◌, ◌≤◌}
@@ -124,10 +124,15 @@ module _ (c : Columns) (count : ℕ) (buffer : List ℕ) (at : ℕ) where
       go true e = never_refused (sym e)
       go false e = ap (λ t. after buffer at (table_text t)) (same_answer e)
 
+-- bytes that are others' are written as those
+pub wrote_same : {a b : Writer} {x y : List ℕ} → x ≡ y → Wrote a b x → Wrote a b y
+wrote_same {a} {b} e w = subst (Wrote a b) e w
+
 -- the heading, and then the rows
-pub table_written : {a b c : Writer} (t : List Row) → Wrote a b heading_text → WroteAll b c (rows_text t) → a.at + length (table_text t) ≤ length a.buffer.now → WroteAll a c (table_text t)
+pub table_written : {a b c : Writer} {heading : List ℕ} (t : List Row) → heading ≡ heading_text → Wrote a b heading → WroteAll b c (rows_text t)
+    → a.at + length (table_text t) ≤ length a.buffer.now → WroteAll a c (table_text t)
 unfolding table_text
-table_written t w v h = wrote_then w (λ _. v) h
+table_written t e w v h = wrote_then (wrote_same e w) (λ _. v) h
 
 -- four fields, one after another
 pub row_written : {a b c d e : Writer} (w : Row) → WroteAll a b (field_text w.id 32) → WroteAll b c (field_text w.l 32) → WroteAll c d (field_text w.r 32)

@@ -30,6 +30,5 @@ returns c =
     let a = c.args in
     let n : 16 + c.rows_length-whole.result ≡ length (table_text (rows_of a.rows)) = omega (arith, table_count (rows_of a.rows)) in
     let t = sym c.too_short.ensures ∙ c.if-too_short.false in
-    let h = rw heading_is at c.bytes.ensures.wrote in
-    let p = whole_wrote a.writer.now (table_text (rows_of a.rows)) n t (table_written (rows_of a.rows) h c.write_rows.ensures (whole_fits a.writer.now (table_text (rows_of a.rows)) n t)) in
+    let p = whole_wrote a.writer.now (table_text (rows_of a.rows)) n t (table_written (rows_of a.rows) heading_is c.bytes.ensures.wrote c.write_rows.ensures (whole_fits a.writer.now (table_text (rows_of a.rows)) n t)) in
     record { result_value = p.0; wrote = p.1 }

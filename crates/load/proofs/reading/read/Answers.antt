@@ -1,5 +1,5 @@
 -- `load::reading::read` meets its contract: each step's refusal is the read's, and the rows that pass the check are copied.
-use Rattle.std.proofs.Common.{rules, ap, sym, ◌∙◌}
+use Rattle.std.proofs.Common.{rules, length, arith, ap, sym, ◌∙◌}
 use Rattle.std.proofs.lemmas.Result.{err_from_is_err_and}
 use Rattle.rules.specs.Answers.{answer}
 use Rattle.table.specs.Columns.{columns}
@@ -74,7 +74,8 @@ copy-requires-3 c =
     let good = sym c.lengths_bad.ensures ∙ c.if-lengths_bad.false in
     let fits = sym c.count_bad.ensures ∙ c.if-count_bad.false in
     let n = count_fits d c.args.bytes.now good c.in_ok-first.ensures fits in
-    rw c.r.ensures (room_in c.in_ok-rows.rows d good n.1 c.in_ok-rows.ensures.cut).2
+    let e = ap length c.r.ensures in
+    omega (arith, (room_in c.in_ok-rows.rows d good n.1 c.in_ok-rows.ensures.cut).2)
 
 pub copy-requires-4 : goal.copy-requires-4
 copy-requires-4 c =
