@@ -13,14 +13,14 @@ use Rattle.rules.proofs.Bools.{or_none}
 use Rattle.rules.proofs.Pieces.{length_four}
 use Rattle.writer.specs.declared.Writer.{Writer}
 use Rattle.writer.specs.Writing.{Wrote, WroteAll}
-use Rattle.writer.proofs.Writing.{wrote_all, wrote_then, wrote_both, whole_short, whole_wrote}
+use Rattle.writer.proofs.Writing.{wrote_all, wrote_then, wrote_both, wrote_nothing, whole_short, whole_wrote}
 use Rattle.text.specs.Decimal.{decimal}
 use Rattle.text.specs.Letters.{letters}
 use Rattle.text.proofs.Laws.{decimal_count}
 use Rattle.calendar.specs.declared.Date.{Date}
 use Rattle.calendar.specs.Calendar.{date_of, last_dated}
 use Rattle.dates.specs.Dates.{date_text, dated_text}
-use Rattle.dates.proofs.Writing.{date_count, dated_is, wrote_nothing}
+use Rattle.dates.proofs.Writing.{date_count, dated_is}
 use Rattle.grant.specs.Grant.{Grant}
 use Rattle.matching.specs.Matching.{Window, window}
 use Rattle.renewals.specs.Dating.{is_open, runs, has_ended}

@@ -7,9 +7,7 @@ use lib.ListN.{length}
 use borrow.Author.Tests.{lt-ltb, le-ltb}
 use Rattle.rules.specs.Answers.{refused}
 use Rattle.rules.specs.Buffers.{written, after}
-use Rattle.rules.proofs.Buffers.{kept, after_none}
-use Rattle.rules.proofs.Cases.{by_lt}
-use Rattle.writer.proofs.Writing.{place_on, place_stays}
+use Rattle.writer.proofs.Writing.{wrote_nothing}
 use Rattle.writer.specs.declared.Writer.{Writer}
 use Rattle.writer.specs.Writing.{Wrote}
 use Rattle.calendar.specs.declared.Date.{Date}
@@ -38,14 +36,6 @@ module _ (buffer : List ℕ) (at day : ℕ) where
   pub buffer_dated : {t : Date} {text : List ℕ} → day ≤ last_dated → t ≡ date_of day → text ≡ date_text t → after buffer at text ≡ date_buffer buffer at day
   unfolding date_buffer
   buffer_dated h e f = rw (le-ltb _ _ h, f, e)
-
--- a writer that writes no byte is as it was
-pub wrote_nothing : (w : Writer) → Wrote w w []
-wrote_nothing w =
-    let b = w.buffer.now in
-    by_lt (length b) (w.at + 0)
-    (λ k. record { buffer = (kept b w.at [] k).1; place = sym (place_stays b w.at [] k); same_reference = refl })
-    (λ k. record { buffer = sym (after_none b w.at (omega arith)); place = omega (arith, place_on b w.at [] k); same_reference = refl })
 
 -- nothing is written where the day is above 36525
 pub wrote_undated : (w : Writer) (day : ℕ) → last_dated < day → Wrote w w (dated_text day)

@@ -67,7 +67,10 @@ module _ (d u : ℕ) (left : Option ℕ) (w : Window) (h : d ≤ w.first) where
 run_ordered : (d : ℕ) (r : Run) (w : Window) → d ≤ w.first → Ordered d r → Ordered w.first (run_with r w)
 run_ordered d r w h o =
     with_open (Ordered w.first) r w
-    (record { left = still_left d r.until r.left w h r.until w.first (later d r.until r.left w h) o.left; stretch = if_some (λ s. Still r.until d s.first) (λ s. Still r.until w.first s.first) r.stretch (λ s k. later d r.until r.left w h s.first k) o.stretch })
+    (record {
+      left = still_left d r.until r.left w h r.until w.first (later d r.until r.left w h) o.left;
+      stretch = if_some (λ s. Still r.until d s.first) (λ s. Still r.until w.first s.first) r.stretch (λ s k. later d r.until r.left w h s.first k) o.stretch;
+    })
     (carry_ordered d r.until r.left w h r.stretch o)
 
 module _ (day : ℕ) where

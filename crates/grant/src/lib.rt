@@ -71,6 +71,7 @@ fn checked_grant(
 
 // The grant at a position: 1, 2, then 14.
 #[tactic(auto, unfolding(crate::specs::Grant::grant_at))]
+#[inline(always)]
 pub fn grant_at(bytes: &[u8], at: usize) -> Result<GrantRead, Refusal>
     ensures { grant_says result ≡ grant_at bytes.now at }
 {
@@ -112,6 +113,7 @@ impl<'a> Iterator for Grants<'a> {
 
     ghost remaining = { item_count items_left };
 
+    #[inline(always)]
     fn next(&mut self) -> Option<Result<Grant, Refusal>> {
         if self.bytes.len() <= self.at {
             return None;

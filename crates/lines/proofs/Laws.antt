@@ -23,7 +23,7 @@ use Rattle.table.specs.Check.{lengths_bad, in_use}
 use Rattle.table.specs.Sound.{Lengths}
 use Rattle.table.proofs.Lengths.{lengths_good, count_good}
 use Rattle.table.proofs.Rows.{rows_length}
-use Rattle.lines.specs.Lines.{field_text, line_text, heading_text, row_text, rows_text, table_text, columns_bad, table_answer, table_buffer}
+use Rattle.lines.specs.Lines.{field_text, line_text, heading_text, row_text, rows_text, table_text, held_text, columns_bad, table_answer, table_buffer}
 
 -- ## A number and the byte after it
 
@@ -123,6 +123,24 @@ module _ (c : Columns) (count : ℕ) (buffer : List ℕ) (at : ℕ) where
       go : (b : Bool) → answer t ≡ cond b (refused 10) (answer (rows c count)) → after buffer at (table_text t) ≡ cond b buffer (after buffer at (table_text (rows c count)))
       go true e = never_refused (sym e)
       go false e = ap (λ t. after buffer at (table_text t)) (same_answer e)
+
+module _ (c : Columns) (count : ℕ) where
+  -- of columns that are refused nothing is written; of others, the text of the rows in use
+  pub refused_holds : {n : ℕ} → refused n ≡ in_use c count → [] ≡ held_text c count
+  unfolding in_use held_text
+  refused_holds {n} e = go (columns_bad c count) e
+    where
+      go : (b : Bool) → refused n ≡ cond b (refused 10) (answer (rows c count)) → [] ≡ cond b [] (table_text (rows c count))
+      go true e = refl
+      go false e = never_refused e
+
+  pub written_holds : {t : List Row} → answer t ≡ in_use c count → table_text t ≡ held_text c count
+  unfolding in_use held_text
+  written_holds {t} e = go (columns_bad c count) e
+    where
+      go : (b : Bool) → answer t ≡ cond b (refused 10) (answer (rows c count)) → table_text t ≡ cond b [] (table_text (rows c count))
+      go true e = never_refused (sym e)
+      go false e = ap table_text (same_answer e)
 
 -- bytes that are others' are written as those
 pub wrote_same : {a b : Writer} {x y : List ℕ} → x ≡ y → Wrote a b x → Wrote a b y

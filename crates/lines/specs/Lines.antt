@@ -36,6 +36,10 @@ table_text t = heading_text ++ rows_text t
 abbrev pub columns_bad : Columns → ℕ → Bool
 columns_bad c count = lengths_bad c || count_bad (length c.id) count
 
+-- what is written of a table: its text; nothing where the columns do not hold the count
+unfoldable pub held_text : Columns → ℕ → List ℕ
+held_text c count = cond (columns_bad c count) [] (table_text (rows c count))
+
 -- a table's writer: 10, then 30; refused, nothing is written
 unfoldable pub table_answer : Columns → ℕ → List ℕ → ℕ → Answer ℕ
 table_answer c count buffer at = cond (columns_bad c count) (refused 10) (written buffer at (table_text (rows c count)))

@@ -5,7 +5,7 @@ ghost use Rattle.rules.specs.Says.{says};
 ghost use Rattle.writer.specs.Writing.{HasRoom, Wrote, WroteAll};
 ghost use Rattle.table.specs.Columns.{columns};
 ghost use Rattle.table.specs.InUse.{rows_of};
-ghost use Rattle.lines.specs.Lines.{row_text, rows_text, table_text, table_answer, table_buffer};
+ghost use Rattle.lines.specs.Lines.{row_text, rows_text, table_text, held_text, table_answer, table_buffer};
 
 use crate::fields::{LINE_FEED, SPACE, field_length, write_field};
 use rules::Refusal;
@@ -78,7 +78,7 @@ pub fn write_table(
 ) -> Result<usize, Refusal>
     ensures result_value { says result ≡ table_answer (columns id.now l.now r.now q.now) count writer.old.buffer.now writer.old.at }
     ensures buffer_value { writer.new.buffer.now ≡ table_buffer (columns id.now l.now r.now q.now) count writer.old.buffer.now writer.old.at }
-    ensures same_reference { writer.new.buffer.ghost_name ≡ writer.old.buffer.ghost_name }
+    ensures wrote { Wrote writer.old writer.new (held_text (columns id.now l.now r.now q.now) count) }
 {
     let rows = RowsInUse::of(id, l, r, q, count)?;
     write_whole(writer, rows)

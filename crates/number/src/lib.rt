@@ -21,7 +21,9 @@ pub struct Number {
 const FIFTH: u32 = 268435456;
 
 // The number at a position: 1 where the bytes end before it does, 2 where it isn't in its shortest form or is too great. Bytes and position are
-// two parameters, as in the definitions; a `Reader` joins them for who draws one after another.
+// two parameters, as in the definitions; a `Reader` joins them for who draws one after another. Inline, as `grant_at` and a grant list's `next`:
+// most numbers have one byte, and a call for it took a third of a decision's time.
+#[inline(always)]
 pub fn number_at(bytes: &[u8], at: usize) -> Result<Number, Refusal>
     ensures { says result ≡ number_at bytes.now at }
 {

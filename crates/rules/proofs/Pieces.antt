@@ -85,17 +85,3 @@ module _ (whole piece : ℕ → List ℕ) (more : (i : ℕ) → whole (i + 1) �
 module _ (a b d e : List ℕ) where
   pub length_four : length (a ++ (b ++ (d ++ e))) ≡ length a + length b + length d + length e
   length_four = simp length-append (omega arith)
-
-  pub four_written : (buffer : List ℕ) (at : ℕ) {x y z w : List ℕ} {p q r : ℕ} → at + length (a ++ (b ++ (d ++ e))) ≤ length buffer
-      → p ≡ at + length a → q ≡ p + length b → r ≡ q + length d
-      → x ≡ after buffer at a → y ≡ after x p b → z ≡ after y q d → w ≡ after z r e
-      → w ≡ after buffer at (a ++ (b ++ (d ++ e)))
-  four_written buffer at {x} {y} {z} {w} {p} {q} {r} h np nq nr ex ey ez ew =
-      let n = length_four in
-      let sx = ap length ex ∙ after_same buffer at a (omega arith) in
-      let sy = ap length ey ∙ after_same x p b (omega arith) in
-      let tail = length-append d e in
-      let tails = length-append b (d ++ e) in
-      let two = after_then y q d e (omega arith) ez nr ew in
-      let three = after_then x p b (d ++ e) (omega arith) ey nq two in
-      after_then buffer at a (b ++ (d ++ e)) (omega arith) ex np three

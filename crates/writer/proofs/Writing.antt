@@ -53,6 +53,14 @@ wrote_then {a} {b} {c} {x} {y} w next fits =
 pub wrote_none : (w : Writer) → w.at ≤ length w.buffer.now → WroteAll w w []
 wrote_none w fits = wrote_room (omega arith) (sym (after_none w.buffer.now w.at fits)) (omega arith) refl
 
+-- a writer that writes no byte is as it was, wherever it stands
+pub wrote_nothing : (w : Writer) → Wrote w w []
+wrote_nothing w =
+    let b = w.buffer.now in
+    by_lt (length b) (w.at + 0)
+    (λ k. record { buffer = (kept b w.at [] k).1; place = sym (place_stays b w.at [] k); same_reference = refl })
+    (λ k. record { buffer = sym (after_none b w.at (omega arith)); place = omega (arith, place_on b w.at [] k); same_reference = refl })
+
 -- ## The room, by its test
 
 -- by what is left after a position

@@ -60,4 +60,4 @@ pub returns : goal.returns
 returns c =
     let w = c.write_table.ensures in
     let p = going_ends c.loop-at.invariant.5 _ w.result_value c.loop-at-test.false w.buffer_value (c.unwrap_or.ensures ∙ said_or c.write_table.result 0) in
-    record { value = p.0; text_value = p.1.0; same_reference = w.same_reference ∙ c.loop-at.invariant.4; q_value_2 = p.1.1 }
+    record { value = p.0; text_value = p.1.0; same_reference = w.wrote.same_reference ∙ c.loop-at.invariant.4; q_value_2 = p.1.1 }
