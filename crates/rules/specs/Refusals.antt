@@ -25,3 +25,5 @@ refusal_number refusal.RowsFull = 24
 refusal_number refusal.IdTwice = 26
 refusal_number refusal.BufferShort = 30
 refusal_number refusal.Undated = 31
+refusal_number refusal.Nodes = 32
+refusal_number refusal.IdRepeats = 33

@@ -63,6 +63,10 @@ pub enum Refusal {
     BufferShort,
     // A grant's first or last day is above 36525.
     Undated,
+    // A reflected tree's nodes are outside 1 to 64 or not those of one tree, or a lower id is 0 where it may not be, or not 0 where it has to be.
+    Nodes,
+    // An id of a reflected tree repeats.
+    IdRepeats,
 }
 
 impl Refusal {
@@ -92,6 +96,8 @@ impl Refusal {
             Refusal::IdTwice => 26,
             Refusal::BufferShort => 30,
             Refusal::Undated => 31,
+            Refusal::Nodes => 32,
+            Refusal::IdRepeats => 33,
         }
     }
 }
