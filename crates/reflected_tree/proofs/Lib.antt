@@ -1,0 +1,9 @@
+pub mod Groups
+pub mod Conditions
+pub mod Positions
+pub mod Distinct
+pub mod Figure
+pub mod Ancestry
+pub mod Numbers
+pub mod Read
+pub mod Most
