@@ -1,0 +1,9 @@
+pub mod Filling
+pub mod NodeSteps
+pub mod Walking
+pub mod Whole
+pub mod Ids
+pub mod Parts
+pub mod Written
+pub mod Standing
+pub mod Joined
