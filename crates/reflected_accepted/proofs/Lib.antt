@@ -1,0 +1,3 @@
+mod Legal
+mod Growing
+pub mod Moving
