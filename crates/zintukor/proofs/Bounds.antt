@@ -31,6 +31,10 @@ use Rattle.stored.proofs.Laws.{read_found}
 use Rattle.page.specs.Page.{page_of, page_answer}
 use Rattle.small.specs.Small.{list_bytes}
 use Rattle.small_requests.proofs.Rows.{list_most}
+use Rattle.reflected_tree.specs.Reflected.{Reflected}
+use Rattle.reflected_tree.specs.Written as written_list
+use Rattle.reflected_tree.specs.Reading.{reflected_of, reflected_answer}
+use Rattle.reflected_tree.proofs.Most.{read_most as reflected_most}
 use Rattle.zintukor.specs.Inside.Small.{Small}
 
 -- what a small answer holds
@@ -95,6 +99,16 @@ store_small c count buffer = go (checked c count) refl
 
 pub list_small : (buffer : List ℕ) (size : ℕ) → Small (written buffer 0 (list_bytes size))
 list_small buffer size = written_small buffer (list_bytes size) (omega (arith, list_most size))
+
+-- ## The list of a reflected tree: at most 29 bytes for each node
+
+pub reflected_small : (bytes buffer : List ℕ) → Small (reflected_answer bytes buffer)
+unfolding reflected_answer
+reflected_small bytes buffer = go (reflected_of bytes) refl
+  where
+    go : (a : Answer Reflected) → reflected_of bytes ≡ a → Small (then a λ t. written buffer 0 (written_list.list_bytes t))
+    go (answer t) e = written_small buffer (written_list.list_bytes t) (omega (arith, reflected_most bytes e))
+    go (refused n) e = tt
 
 -- ## A page: no longer than its buffer
 

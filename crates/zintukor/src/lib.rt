@@ -13,6 +13,7 @@ ghost use Rattle.rules.specs.Buffers.{written, after};
 ghost use Rattle.rules.specs.Says.{says};
 ghost use Rattle.zintukor.specs.Inside.Small.{Small};
 ghost use Rattle.small.specs.Small.{list_bytes};
+ghost use Rattle.reflected_tree.specs.Reading.{reflected_of, reflected_answer, reflected_buffer};
 ghost use Rattle.decide.specs.Decision.{decided};
 ghost use Rattle.page.specs.Page.{page_of, page_answer, page_buffer};
 ghost use Rattle.stored.specs.Stored.{store_answer, store_buffer, read_rows};
@@ -26,6 +27,7 @@ use load::read;
 use order::order;
 use page::page;
 use refine::refine;
+use reflected::reflected;
 use rules::{GREATEST, Refusal};
 use small_requests::small_requests;
 use store::store;
@@ -144,4 +146,13 @@ pub fn zintukor_small_requests(size: u32, buffer: &mut [u8]) -> u64
     ensures buffer_value { buffer.new ≡ after buffer.old 0 (list_bytes size) }
 {
     answer_code(small_requests(size, buffer))
+}
+
+// Reads a reflected tree of the old product, and writes the list with which a table gets its groups.
+#[tactic(auto, using(crate::proofs::Bounds::reflected_small))]
+pub fn zintukor_reflected(bytes: &[u8], buffer: &mut [u8]) -> u64
+    ensures value { result ≡ count_code (reflected_answer bytes.now buffer.old) }
+    ensures buffer_value { buffer.new ≡ reflected_buffer (reflected_of bytes.now) buffer.old }
+{
+    answer_code(reflected(bytes, buffer))
 }

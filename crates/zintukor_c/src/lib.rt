@@ -10,6 +10,7 @@ ghost use Rattle.refine.specs.Refine.{refined};
 ghost use Rattle.rules.specs.Limits.{greatest};
 ghost use Rattle.rules.specs.Buffers.{written, after};
 ghost use Rattle.small.specs.Small.{list_bytes};
+ghost use Rattle.reflected_tree.specs.Reading.{reflected_of, reflected_answer, reflected_buffer};
 ghost use Rattle.decide.specs.Decision.{decided};
 ghost use Rattle.page.specs.Page.{page_of, page_answer, page_buffer};
 ghost use Rattle.stored.specs.Stored.{store_answer, store_buffer, read_rows};
@@ -120,4 +121,13 @@ pub extern "C" fn zintukor_small_requests(size: u32, buffer: &mut [u8]) -> u64
     ensures buffer_value { buffer.new ≡ after buffer.old 0 (list_bytes size) }
 {
     zintukor::zintukor_small_requests(size, buffer)
+}
+
+// Reads a reflected tree of the old product, and writes the list with which a table gets its groups.
+#[unsafe(no_mangle)]
+pub extern "C" fn zintukor_reflected(bytes: &[u8], buffer: &mut [u8]) -> u64
+    ensures value { result ≡ count_code (reflected_answer bytes.now buffer.old) }
+    ensures buffer_value { buffer.new ≡ reflected_buffer (reflected_of bytes.now) buffer.old }
+{
+    zintukor::zintukor_reflected(bytes, buffer)
 }
