@@ -1,5 +1,5 @@
--- The kinds of worked example in document 01, and those of dates, pages and small requests: what is given, what the definitions make of it, and what is said of it.
-use Rattle.std.specs.Prelude.{ℕ, Bool, length, take, drop}
+-- The kinds of worked example in document 01, and those of dates, pages, small requests and reflected trees: what is given, what the definitions make of it, and what is said of it.
+use Rattle.std.specs.Prelude.{ℕ, Bool, eqb, length, take, drop}
 use Prim.Native.String.{String}
 use mathlib.Core.List.{List, [], ◌∷◌, ◌++◌, map, flatten}
 use Rattle.rules.specs.Answers.{Answer, answer, refused, then}
@@ -10,6 +10,8 @@ use Rattle.request.specs.Entries.{quota_of}
 use Rattle.table.specs.declared.Row.{Row}
 use Rattle.table.specs.Columns.{rows, l_of, r_of, counted, afterwards}
 use Rattle.fresh.specs.Fresh.{fresh_rows}
+use Rattle.order.specs.declared.Ordered.{Ordered}
+use Rattle.order.specs.Order.{order_by, order_in}
 use Rattle.grant.specs.Grant.{Grant, grant, grants_bytes}
 use Rattle.renewals.specs.Dating.{Decision}
 use Rattle.decide.specs.Decision.{decided}
@@ -22,6 +24,10 @@ use Rattle.calendar.specs.declared.Date.{Date}
 use Rattle.calendar.specs.Calendar.{date_of}
 use Rattle.page.specs.Page.{page_of}
 use Rattle.small.specs.Small.{list_bytes}
+use Rattle.reflected_tree.specs.Reflected.{Reflected, groups}
+use Rattle.reflected_tree.specs.Written as tree_list
+use Rattle.reflected_tree.specs.Table2.{table2}
+use Rattle.reflected_tree.specs.Reading.{reflected_of}
 use Rattle.replay.specs.Replay.{Replay, replay_of, blank, grow_text}
 use Rattle.proved_cases.specs.Lines.{lines}
 
@@ -57,6 +63,10 @@ pub data Case : Type 0 where
   paged : (l r day : ℕ) → List Grant → Answer (List String) → Case
   -- a size, and its small requests by their bytes, each after its length
   smalls : (size : ℕ) → List (List ℕ) → Case
+  -- a reflected tree's numbers, and its list: the pair's numbers, and each request's after its length
+  moved : List ℕ → Answer (List (List ℕ)) → Case
+  -- a reflected tree's numbers: its list is carried out, and of every two of its groups the table's order is Table 2's
+  compared : List ℕ → Case
   -- fresh of a group and a quota, then calls; a pass of the group x, noted after n of them, and grants; feature and day. The pass's note and the grants',
   -- what is decided from their numbers, and what the ledger's last order gives
   noted : (id quota : ℕ) → List Call → (n x : ℕ) → List NotedGrant → (feature day : ℕ) → List Note → (by_numbers by_order : Answer Decision) → Case
@@ -79,6 +89,10 @@ pub data Outcome : Type 0 where
   page : Answer (List ℕ) → Outcome
   -- the bytes of a list of small requests
   list : List ℕ → Outcome
+  -- the bytes of a reflected tree's list
+  moves : Answer (List ℕ) → Outcome
+  -- what order answers of every two groups
+  orders : Answer (List (Answer Ordered)) → Outcome
   -- the notes of a pass and of grants, the decision from their numbers, and the ledger's
   decisions : List Note → Answer Decision → Answer Decision → Outcome
 
@@ -126,6 +140,14 @@ abbrev pub rows_after : Answer Replay → List Row
 rows_after (answer r) = rows r.table.columns r.table.count
 rows_after (refused n) = []
 
+-- the ids of a tree's groups; something of every two ids
+abbrev pub ids : Reflected → List ℕ
+ids t = map (λ e. e.id) (groups t)
+
+abbrev pub of_every_two : (ℕ → ℕ → Answer Ordered) → List ℕ → List ℕ → List (Answer Ordered)
+of_every_two f [] s = []
+of_every_two f (x ∷ r) s = map (f x) s ++ of_every_two f r s
+
 abbrev pub computed : Case → Outcome
 computed (stored value bytes) = codec (bytes_of value) (number_at bytes 0)
 computed (made id quota after) = table (counted (fresh_rows blank id quota)) (rows (afterwards (fresh_rows blank id quota) blank) 1)
@@ -140,6 +162,10 @@ computed (answered said text) = printed (decision_text said) []
 computed (falls day said) = date (date_of day)
 computed (paged l r day gs said) = page (page_of l r day (grants_bytes gs))
 computed (smalls size requests) = list (list_bytes size)
+computed (moved numbers said) = moves (then (reflected_of (stream numbers)) λ t. answer (tree_list.list_bytes t))
+computed (compared numbers) =
+    orders (then (reflected_of (stream numbers)) λ t.
+    answer (of_every_two (order_in (rows_after (replay_of blank (tree_list.list_bytes t)))) (ids t) (ids t)))
 computed (noted id quota calls n x hs feature day ns by_numbers by_order) =
     let pass = note id quota calls n x in
     decisions (pass ∷ map (note_of id quota calls) hs)
@@ -156,4 +182,8 @@ stated (answered said text) = printed (lines (text ∷ [])) []
 stated (falls day said) = date said
 stated (paged l r day gs said) = page (then said λ text. answer (lines text))
 stated (smalls size requests) = list (flatten requests)
+stated (moved numbers said) = moves (then said λ parts. answer (stream (flatten parts)))
+stated (compared numbers) =
+    orders (then (reflected_of (stream numbers)) λ t.
+    answer (of_every_two (λ x y. answer (order_by (eqb x y) (table2 t x y) (table2 t y x))) (ids t) (ids t)))
 stated (noted id quota calls n x hs feature day ns by_numbers by_order) = decisions ns by_numbers by_order

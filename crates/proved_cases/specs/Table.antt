@@ -1,4 +1,4 @@
--- The cases that document 01 marks P, in its order; after its requests, which id was taken; after its decisions, the lines that `may` prints of them, dates, pages and small requests. At the end, demand 3's last two clauses.
+-- The cases that document 01 marks P, in its order; after its requests, which id was taken; after its decisions, the lines that `may` prints of them, dates, pages, small requests and reflected trees. At the end, demand 3's last two clauses.
 use Rattle.std.specs.Prelude.{ℕ, true, false, List, [], ◌∷◌, ◌++◌}
 use Prim.Native.String.{String}
 use Rattle.rules.specs.Answers.{answer, refused}
@@ -9,7 +9,7 @@ use Rattle.grant.specs.Grant.{grant}
 use Rattle.renewals.specs.Dating.{on_open, on_until, ended, ahead, never}
 use Rattle.calendar.specs.Calendar.{date}
 use Rattle.ledger.specs.Calls.{Call, refine, order, Reply, refine_says, order_says}
-use Rattle.proved_cases.specs.Cases.{Case, NotedGrant, Note, stored, made, grown, logged, asked, answered, falls, paged, smalls, noted, row, stream}
+use Rattle.proved_cases.specs.Cases.{Case, NotedGrant, Note, stored, made, grown, logged, asked, answered, falls, paged, smalls, moved, compared, noted, row, stream}
 
 -- a request by its numbers
 abbrev pub request : List ℕ → Call
@@ -51,6 +51,37 @@ ten_of3 =
     ∷ (12 ∷ 1 ∷ 1 ∷ 2 ∷ 1 ∷ 1 ∷ 0 ∷ 2 ∷ 1 ∷ 1 ∷ 3 ∷ 1 ∷ 0 ∷ [])
     ∷ (12 ∷ 1 ∷ 1 ∷ 2 ∷ 1 ∷ 1 ∷ 1 ∷ 2 ∷ 1 ∷ 0 ∷ 3 ∷ 1 ∷ 0 ∷ [])
     ∷ (12 ∷ 1 ∷ 1 ∷ 3 ∷ 1 ∷ 1 ∷ 0 ∷ 2 ∷ 1 ∷ 0 ∷ 3 ∷ 1 ∷ 0 ∷ [])
+    ∷ []
+
+-- the reflected tree D, d over P1, p1 over T1, T2, T3 and P2, p2 over T4, T5, and its list: the pair; D over P1 over d; P1 and P2; P1 over T1 over p1;
+-- the three tasks; P2 over T4 over p2; the two tasks
+unfoldable pub figure_c : List ℕ
+figure_c = 8 ∷ 1 ∷ 11 ∷ 2 ∷ 2 ∷ 12 ∷ 3 ∷ 3 ∷ 0 ∷ 0 ∷ 4 ∷ 0 ∷ 0 ∷ 5 ∷ 0 ∷ 0 ∷ 6 ∷ 16 ∷ 2 ∷ 7 ∷ 0 ∷ 0 ∷ 8 ∷ 0 ∷ 0 ∷ []
+
+unfoldable pub list_c : List (List ℕ)
+list_c =
+    (1 ∷ 11 ∷ [])
+    ∷ (12 ∷ 1 ∷ 0 ∷ 1 ∷ 1 ∷ 1 ∷ 1 ∷ 2 ∷ 9 ∷ 1 ∷ 11 ∷ 1 ∷ 0 ∷ [])
+    ∷ (9 ∷ 2 ∷ 0 ∷ 2 ∷ 2 ∷ 5 ∷ 0 ∷ 6 ∷ 4 ∷ 0 ∷ [])
+    ∷ (12 ∷ 2 ∷ 0 ∷ 1 ∷ 2 ∷ 1 ∷ 1 ∷ 3 ∷ 3 ∷ 1 ∷ 12 ∷ 1 ∷ 0 ∷ [])
+    ∷ (12 ∷ 3 ∷ 0 ∷ 3 ∷ 3 ∷ 1 ∷ 0 ∷ 4 ∷ 1 ∷ 0 ∷ 5 ∷ 1 ∷ 0 ∷ [])
+    ∷ (12 ∷ 6 ∷ 0 ∷ 1 ∷ 6 ∷ 1 ∷ 1 ∷ 7 ∷ 2 ∷ 1 ∷ 16 ∷ 1 ∷ 0 ∷ [])
+    ∷ (9 ∷ 7 ∷ 0 ∷ 2 ∷ 7 ∷ 1 ∷ 0 ∷ 8 ∷ 1 ∷ 0 ∷ [])
+    ∷ []
+
+-- with T6 beside T4 and T5
+unfoldable pub figure_d : List ℕ
+figure_d = 9 ∷ 1 ∷ 11 ∷ 2 ∷ 2 ∷ 12 ∷ 3 ∷ 3 ∷ 0 ∷ 0 ∷ 4 ∷ 0 ∷ 0 ∷ 5 ∷ 0 ∷ 0 ∷ 6 ∷ 16 ∷ 3 ∷ 7 ∷ 0 ∷ 0 ∷ 8 ∷ 0 ∷ 0 ∷ 9 ∷ 0 ∷ 0 ∷ []
+
+unfoldable pub list_d : List (List ℕ)
+list_d =
+    (1 ∷ 12 ∷ [])
+    ∷ (12 ∷ 1 ∷ 0 ∷ 1 ∷ 1 ∷ 1 ∷ 1 ∷ 2 ∷ 10 ∷ 1 ∷ 11 ∷ 1 ∷ 0 ∷ [])
+    ∷ (9 ∷ 2 ∷ 0 ∷ 2 ∷ 2 ∷ 5 ∷ 0 ∷ 6 ∷ 5 ∷ 0 ∷ [])
+    ∷ (12 ∷ 2 ∷ 0 ∷ 1 ∷ 2 ∷ 1 ∷ 1 ∷ 3 ∷ 3 ∷ 1 ∷ 12 ∷ 1 ∷ 0 ∷ [])
+    ∷ (12 ∷ 3 ∷ 0 ∷ 3 ∷ 3 ∷ 1 ∷ 0 ∷ 4 ∷ 1 ∷ 0 ∷ 5 ∷ 1 ∷ 0 ∷ [])
+    ∷ (12 ∷ 6 ∷ 0 ∷ 1 ∷ 6 ∷ 1 ∷ 1 ∷ 7 ∷ 3 ∷ 1 ∷ 16 ∷ 1 ∷ 0 ∷ [])
+    ∷ (12 ∷ 7 ∷ 0 ∷ 3 ∷ 7 ∷ 1 ∷ 0 ∷ 8 ∷ 1 ∷ 0 ∷ 9 ∷ 1 ∷ 0 ∷ [])
     ∷ []
 
 -- the four requests of the program grow's example
@@ -236,6 +267,26 @@ cases =
     ∷ smalls 0 []
     ∷ smalls 7 []
     ∷ smalls 4294967295 []
+    -- reflected trees: the one of the rules, and the same with a leaf more; one node; one over another, with the greatest ids
+    ∷ moved figure_c (answer list_c)
+    ∷ compared figure_c
+    ∷ moved figure_d (answer list_d)
+    ∷ compared figure_d
+    ∷ moved (1 ∷ 5 ∷ 0 ∷ 0 ∷ []) (answer ((5 ∷ 1 ∷ []) ∷ []))
+    ∷ moved (2 ∷ 4294967295 ∷ 4294967294 ∷ 1 ∷ 4294967293 ∷ 0 ∷ 0 ∷ []) (answer ((4294967295 ∷ 3 ∷ []) ∷ (28 ∷ 4294967295 ∷ 0 ∷ 1 ∷ 4294967295 ∷ 1 ∷ 1 ∷ 4294967293 ∷ 1 ∷ 1 ∷ 4294967294 ∷ 1 ∷ 0 ∷ []) ∷ []))
+    -- 32 for 0 and 65 nodes, a node after the whole tree, nodes that end too early, a leaf's lower id, an inner node without one; 4; 6; 33
+    ∷ moved (0 ∷ []) (refused 32)
+    ∷ moved (65 ∷ 1 ∷ 0 ∷ 0 ∷ []) (refused 32)
+    ∷ moved (2 ∷ 1 ∷ 0 ∷ 0 ∷ 2 ∷ 0 ∷ 0 ∷ []) (refused 32)
+    ∷ moved (2 ∷ 1 ∷ 0 ∷ 0 ∷ []) (refused 32)
+    ∷ moved (1 ∷ 1 ∷ 9 ∷ 1 ∷ []) (refused 32)
+    ∷ moved (1 ∷ 1 ∷ 9 ∷ 0 ∷ []) (refused 32)
+    ∷ moved (2 ∷ 1 ∷ 0 ∷ 1 ∷ 2 ∷ 0 ∷ 0 ∷ []) (refused 32)
+    ∷ moved (1 ∷ 0 ∷ 0 ∷ 0 ∷ []) (refused 4)
+    ∷ moved (1 ∷ 1 ∷ 0 ∷ 0 ∷ 0 ∷ []) (refused 6)
+    ∷ moved (2 ∷ 1 ∷ 9 ∷ 1 ∷ 1 ∷ 0 ∷ 0 ∷ []) (refused 33)
+    ∷ moved (2 ∷ 1 ∷ 2 ∷ 1 ∷ 2 ∷ 0 ∷ 0 ∷ []) (refused 33)
+    ∷ moved (3 ∷ 1 ∷ 9 ∷ 1 ∷ 2 ∷ 9 ∷ 1 ∷ 3 ∷ 0 ∷ 0 ∷ []) (refused 33)
     ∷ logged log9 lines9 rows9
     ∷ grown 1 100 calls9 replies9 rows9
     -- 9's pass, and grants to 5 and 3, each noted at a point of its own; then 4 is exploded. 9 ≤ 5 still, and 3's grant is still not 9's
