@@ -1,4 +1,5 @@
-/* A host in C: document 01's Figure 9(b) log, an order, decisions, a page, the table stored and read back, and small requests. */
+/* A host in C: document 01's Figure 9(b) log, an order, decisions, a page, the table stored and read back, small requests, and a carrier that moves over from
+   the old product. */
 #include <stdio.h>
 
 #include "zintukor.h"
@@ -139,6 +140,35 @@ static void print_small_requests(uint32_t size)
     }
 }
 
+/* The old product's tree of document 000's Figure 1(c): the number of nodes, then upper id, lower id and number of children of each.
+   D is 1 and d 11, P1 is 2 and p1 12, P2 is 6 and p2 16; the tasks are 3 to 5, 7 and 8. */
+static const uint8_t old_tree[] = {
+    8,
+    1, 11, 2,
+    2, 12, 3,  3, 0, 0,  4, 0, 0,  5, 0, 0,
+    6, 16, 2,  7, 0, 0,  8, 0, 0,
+};
+
+/* A carrier moves over: the list of its old tree, carried out. */
+static void move_over(void)
+{
+    static struct table t;
+    uint8_t list[ZINTUKOR_MOST_REFLECTED];
+    uint64_t answer = zintukor_reflected(old_tree, sizeof old_tree, list, sizeof list);
+    size_t at;
+    printf("the old tree moves over:\n");
+    if (ZINTUKOR_KIND(answer) == ZINTUKOR_REFUSED) {
+        printf("no %u\n", (unsigned)ZINTUKOR_VALUE(answer));
+        return;
+    }
+    /* The fresh pair, and then each request after its length: in this list each number has one byte. */
+    take(&t, zintukor_fresh(COLUMNS(&t), list[0], list[1]));
+    for (at = 2; at < ZINTUKOR_VALUE(answer); at += 1 + list[at])
+        take(&t, zintukor_refine(COLUMNS(&t), t.count, list + at + 1, list[at]));
+    print_table(&t);
+    print_order(&t, 3, 12);
+}
+
 int main(void)
 {
     static struct table t, back;
@@ -182,5 +212,6 @@ int main(void)
         return 1;
     printf("read back as the same table\n");
     print_small_requests(3);
+    move_over();
     return 0;
 }

@@ -9,7 +9,8 @@
  * A slice is a pointer and then a length in elements. The pointer is aligned for its
  * elements and is not null, also where the length is 0.
  * - A slice that a call writes overlaps no other slice of the call: the columns do not
- *   overlap each other, the request, the bytes or the buffer, nor the buffer the grants.
+ *   overlap each other, the request, the bytes or the buffer, nor the buffer the grants or the
+ *   bytes.
  * - Nobody else writes a slice, or reads one that is written, while a call runs.
  * - Past its length nothing of a slice is read or written.
  *
@@ -37,9 +38,9 @@ extern "C" {
 
 /* The version of the library. */
 #define ZINTUKOR_VERSION_MAJOR 0
-#define ZINTUKOR_VERSION_MINOR 5
+#define ZINTUKOR_VERSION_MINOR 6
 #define ZINTUKOR_VERSION_PATCH 0
-#define ZINTUKOR_VERSION "0.5.0"
+#define ZINTUKOR_VERSION "0.6.0"
 
 /* The most rows that columns have. */
 #define ZINTUKOR_MOST_ROWS 256
@@ -53,6 +54,13 @@ extern "C" {
 
 /* A buffer of so many bytes holds the small requests of any size: 22 for each of the 264 of size 6. */
 #define ZINTUKOR_MOST_SMALL_REQUESTS 5808
+
+/* The most nodes of a reflected tree. */
+#define ZINTUKOR_MOST_NODES 64
+
+/* A buffer of so many bytes holds the list of any reflected tree: 29 for each node but the root,
+   and 6. */
+#define ZINTUKOR_MOST_REFLECTED 1833
 
 /* The two parts of an answer. */
 #define ZINTUKOR_KIND(answer) ((uint32_t)((uint64_t)(answer) >> 32))
@@ -75,9 +83,9 @@ extern "C" {
 #define ZINTUKOR_NO_NUMBER_CUT 1      /* bytes end before a number does */
 #define ZINTUKOR_NO_NUMBER_FORM 2     /* fifth byte above 15, or a last byte 00 that isn't the only one */
 #define ZINTUKOR_NO_DIRECTION 3       /* direction above 1 */
-#define ZINTUKOR_NO_ZERO 4            /* exploded id, tree count, entry id or quota is 0 */
-#define ZINTUKOR_NO_DEPTH 5           /* an entry's depth is 17 */
-#define ZINTUKOR_NO_BYTES_REMAIN 6    /* bytes remain at the end of a request or a stored table */
+#define ZINTUKOR_NO_ZERO 4            /* exploded id, tree count, entry id, quota or a node's upper id is 0 */
+#define ZINTUKOR_NO_DEPTH 5           /* an entry's or a node's depth is 17 */
+#define ZINTUKOR_NO_BYTES_REMAIN 6    /* bytes remain at the end of a request, stored table or reflected tree */
 #define ZINTUKOR_NO_ENTRIES 7         /* an entry is the 257th */
 #define ZINTUKOR_NO_COLUMNS 10        /* lengths differ or not 1 to 256; count 0 or above length */
 #define ZINTUKOR_NO_ROW_VALUE 11      /* a value 0, or a range past the greatest number */
@@ -93,6 +101,9 @@ extern "C" {
 #define ZINTUKOR_NO_ID_TWICE 26       /* another entry's id comes twice */
 #define ZINTUKOR_NO_BUFFER_SHORT 30   /* buffer shorter than the bytes needed */
 #define ZINTUKOR_NO_UNDATED 31        /* a grant's first or last day has no date: it is above 36525 */
+#define ZINTUKOR_NO_NODES 32          /* not one whole reflected tree of 1 to 64 nodes, or a lower id is 0 in
+                                         a node with children or isn't in one without */
+#define ZINTUKOR_NO_ID_REPEATS 33     /* an id of a reflected tree repeats */
 
 /*
  * Writes row 0: the group at l = 1 and r = 1 with the quota. Other rows stay.
@@ -196,6 +207,23 @@ uint64_t zintukor_read(uint32_t *id, size_t id_length,
  * ZINTUKOR_MOST_SMALL_REQUESTS bytes is long enough for every size.
  */
 uint64_t zintukor_small_requests(uint32_t size, uint8_t *buffer, size_t buffer_length);
+
+/*
+ * Reads a reflected tree of the old product and writes the list that makes its groups. The tree's
+ * bytes are the number of nodes, 1 to ZINTUKOR_MOST_NODES, then each node in left pre-order: upper
+ * id, lower id, number of children. A node with children has a lower group, the mirror image of its
+ * upper one; a leaf has none, and its lower id is 0.
+ * The list is the fresh pair, which is the root's upper id and the number of groups, then requests,
+ * each after its length, a stored number. Columns of 256 rows accept zintukor_fresh of the pair and
+ * zintukor_refine of each request, and zintukor_order then answers of any two groups how they stand
+ * in the reflected tree, by Table 2 of its paper. Bytes after the list stay.
+ * Answers COUNT and the byte count. Refusals, from left to right: 1 or 2 for a number; 32 for the
+ * number of nodes; before each node 32 where the tree is whole already, then 5; 4; 32 for a lower
+ * id, once the number of children is read; 32 where the nodes end before the tree is whole; 6; then
+ * 33; then 30. A buffer of ZINTUKOR_MOST_REFLECTED bytes is long enough for every tree.
+ */
+uint64_t zintukor_reflected(const uint8_t *bytes, size_t bytes_length,
+                            uint8_t *buffer, size_t buffer_length);
 
 #ifdef __cplusplus
 }

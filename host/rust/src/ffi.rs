@@ -82,4 +82,10 @@ extern "C" {
         bytes_length: usize,
     ) -> u64;
     pub(crate) fn zintukor_small_requests(size: u32, buffer: *mut u8, buffer_length: usize) -> u64;
+    pub(crate) fn zintukor_reflected(
+        bytes: *const u8,
+        bytes_length: usize,
+        buffer: *mut u8,
+        buffer_length: usize,
+    ) -> u64;
 }

@@ -177,3 +177,13 @@ pub fn small_requests(size: u32, buffer: &mut [u8]) -> Result<usize, Refusal> {
     let answered = unsafe { ffi::zintukor_small_requests(size, buffer.as_mut_ptr(), buffer.len()) };
     answer::count(answered)
 }
+
+/// Reads a reflected tree's bytes, writes its list into the buffer, the fresh pair and then the
+/// requests, each after its length, and answers the byte count; bytes after it stay. A buffer of
+/// [`REFLECTED`](crate::REFLECTED) bytes is long enough for every tree.
+pub fn reflected(bytes: &[u8], buffer: &mut [u8]) -> Result<usize, Refusal> {
+    // SAFETY: pointers and lengths of slices; the buffer, which is written, doesn't overlap the bytes.
+    let answered =
+        unsafe { ffi::zintukor_reflected(bytes.as_ptr(), bytes.len(), buffer.as_mut_ptr(), buffer.len()) };
+    answer::count(answered)
+}

@@ -36,6 +36,7 @@
 //! ```
 //!
 //! [`small_requests`] gives every small request in order, for tools that want a full set.
+//! [`reflected`] turns a reflected tree of the old product into requests.
 //!
 //! Every call takes any columns, bytes and numbers and answers or refuses. A refused call leaves
 //! each lent column and buffer as it found it.
@@ -52,6 +53,7 @@ pub mod lent;
 mod number;
 mod order;
 mod page;
+mod reflected;
 mod refusal;
 mod request;
 mod small;
@@ -63,6 +65,7 @@ pub use grant::{decide, grants, Grant, Pass};
 pub use number::write_number;
 pub use order::Order;
 pub use page::page;
+pub use reflected::reflected;
 pub use refusal::Refusal;
 pub use request::{entry, Entry, Request};
 pub use small::{small_requests, SmallRequests};
@@ -82,3 +85,9 @@ pub const PAGE_LINE: usize = 41;
 
 /// The bytes of the small requests of size 6, each after its length: no size has more.
 pub const SMALL_REQUESTS: usize = 5_808;
+
+/// The most nodes of a reflected tree.
+pub const NODES: usize = 64;
+
+/// A buffer of so many bytes holds the list of any reflected tree: 29 for each node but the root, and 6.
+pub const REFLECTED: usize = 1_833;

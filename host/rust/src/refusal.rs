@@ -39,8 +39,8 @@ refusals! {
     NumberCut = 1, "the bytes end in the middle of a number or before all numbers are there";
     NumberForm = 2, "a number in the bytes is too great or not in its shortest form";
     Direction = 3, "the request's direction is neither 0 (upright) nor 1 (inverted)";
-    Zero = 4, "the request has a 0 as an id, as a quota or as its number of trees";
-    Depth = 5, "the request's trees are more than 16 levels deep";
+    Zero = 4, "the request has a 0 as an id, as a quota or as its number of trees, or the reflected tree has one as an upper id";
+    Depth = 5, "the request's trees or the reflected tree are more than 16 levels deep";
     BytesRemain = 6, "there are bytes left over after the end";
     Entries = 7, "the request has more than 256 entries";
     Columns = 10, "the columns differ in length or aren't 1 to 256 long, or the count of rows is 0 or above that length";
@@ -55,8 +55,10 @@ refusals! {
     QuotaSum = 23, "the entries' quotas don't add up to the quota of the group to break up";
     RowsFull = 24, "the columns have too few rows for the new groups";
     IdTwice = 26, "a new group's id comes twice in the request";
-    BufferShort = 30, "the buffer is too short for the stored table or the page";
+    BufferShort = 30, "the buffer is too short for the stored table, the page or the requests";
     Undated = 31, "a grant's first or last day has no date: it is above 36525";
+    Nodes = 32, "the bytes aren't one whole reflected tree of 1 to 64 nodes, or a lower id is 0 in a node with children or isn't in one without";
+    IdRepeats = 33, "an id comes twice in the reflected tree";
 }
 
 impl Refusal {

@@ -10,7 +10,7 @@ use common::both::{Answer, Both};
 use common::bytes::{damaged, encode};
 use common::guarded::Lent;
 use common::rng::{one_seed, seeds, Rng, Seed};
-use common::{requests, tables, windows};
+use common::{reflected, requests, tables, windows};
 use zintukor::Pass;
 
 /// One list of calls on one table.
@@ -38,7 +38,7 @@ impl List<'_> {
     }
 
     fn step(&mut self) {
-        match self.rng.below(15) {
+        match self.rng.below(16) {
             0..=2 => self.refine_sound(),
             3 | 4 => self.refine_damaged(),
             5 => self.refine_too_big(),
@@ -49,7 +49,8 @@ impl List<'_> {
             11 => self.fresh(),
             12 => self.decide(),
             13 => self.page(),
-            _ => self.small_requests(),
+            14 => self.small_requests(),
+            _ => self.reflected(),
         }
     }
 
@@ -319,6 +320,31 @@ impl List<'_> {
         let answer = self.both.small_requests(size, &mut tables::buffer(rng, length));
         assert_eq!(answer, if length >= needed { Answer::Count(needed) } else { Answer::Refused(30) });
     }
+
+    /// A reflected tree, into a buffer of just its list, too short, or longer; and the same broken,
+    /// damaged or cut.
+    fn reflected(&mut self) {
+        let rng = &mut self.rng;
+        let nodes = reflected::nodes(rng);
+        let mut numbers = reflected::sound(rng, nodes);
+        let bytes = encode(&numbers);
+        let needed = zintukor::reflected(&bytes).unwrap().len();
+        let any = rng.below(needed + 1);
+        let length = rng.pick(&[needed, needed, needed - 1, needed + 1, needed + 40, 0, any]);
+        let answer = self.both.reflected(&bytes, &mut tables::buffer(rng, length));
+        assert_eq!(answer, if length >= needed { Answer::Count(needed) } else { Answer::Refused(30) });
+        if rng.once_in(5) {
+            numbers = reflected::too_big(rng);
+        }
+        if rng.once_in(2) {
+            reflected::break_rule(rng, &mut numbers);
+        }
+        let bytes = if rng.once_in(3) { damaged(rng, &numbers) } else { encode(&numbers) };
+        let cut = bytes.len().saturating_sub(1);
+        for bytes in [&bytes, &bytes[..cut]] {
+            self.both.reflected(bytes, &mut tables::buffer(rng, length));
+        }
+    }
 }
 
 /// A number near another, not 0.
@@ -347,7 +373,7 @@ const LAST_DATED: u32 = 36_525;
 const SMALL: [usize; 7] = [0, 14, 40, 130, 448, 1_596, 5_808];
 
 /// The refusals that each call can give, and its other answers.
-const CALLS: [(&str, &[u32], &[&str]); 8] = [
+const CALLS: [(&str, &[u32], &[&str]); 9] = [
     ("fresh", &[10, 11], &["count"]),
     ("refine", &[1, 2, 3, 4, 5, 6, 7, 10, 11, 12, 13, 20, 21, 22, 23, 24, 26], &["count"]),
     ("order", &[10, 11, 12, 13, 20], &["same", "first", "second", "incomparable"]),
@@ -356,6 +382,7 @@ const CALLS: [(&str, &[u32], &[&str]); 8] = [
     ("store", &[10, 11, 12, 13, 30], &["count"]),
     ("read", &[1, 2, 6, 10, 11, 12, 13], &["count"]),
     ("small_requests", &[30], &["count"]),
+    ("reflected", &[1, 2, 4, 5, 6, 30, 32, 33], &["count"]),
 ];
 
 #[test]

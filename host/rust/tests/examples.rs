@@ -5,8 +5,8 @@ mod common;
 
 use common::rng::Rng;
 use zintukor::{
-    decide, entry, grants, page, write_number, Decision, Entry, Grant, Order, Pass, Refusal, Request, Row,
-    Table,
+    decide, entry, grants, page, reflected, write_number, Decision, Entry, Grant, Order, Pass, Refusal,
+    Request, Row, Table,
 };
 
 fn row(id: u32, l: u32, r: u32, quota: u32) -> Row {
@@ -44,6 +44,7 @@ fn bad_numbers() {
         assert_eq!(decide(7, Pass { l: 1, r: 1 }, 1, bytes), Err(refusal));
         assert_eq!(page(Pass { l: 1, r: 1 }, 1, bytes), Err(refusal));
         assert_eq!(Table::read(1, bytes).unwrap_err(), refusal);
+        assert_eq!(reflected(bytes), Err(refusal));
     }
 }
 

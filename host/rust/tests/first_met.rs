@@ -1,6 +1,6 @@
 //! Where two conditions are met, the first counts: the documents' order of checks, written out.
 
-use zintukor::{decide, fresh, lent, order, page, read, refine, store, Columns, Pass};
+use zintukor::{decide, fresh, lent, order, page, read, refine, reflected, store, Columns, Pass};
 
 /// Columns from rows (id, l, r, q), as long as the rows are many.
 fn columns(rows: &[[u32; 4]]) -> Columns {
@@ -209,4 +209,53 @@ fn stored_tables() {
         refused(read(&mut lent, bytes), number);
         assert_eq!(lent, columns(&ZERO_AND_EQUAL));
     }
+}
+
+/// A reflected tree from left to right, then 6, 33 and the buffer.
+#[test]
+fn reflected_trees() {
+    // So many inner nodes, each the child of the one before; the tree is said to have `nodes`.
+    let chain = |nodes: u8, inner: u8, after: &[u8]| {
+        let mut bytes = vec![nodes];
+        bytes.extend((1..=inner).flat_map(|k| [k, 100 + k, 1]));
+        bytes.extend(after);
+        bytes
+    };
+    for (bytes, number) in [
+        (vec![], 1),
+        (vec![0x80, 0], 2),
+        (vec![0, 0], 32),
+        (vec![65, 0x80, 0], 32),
+        (vec![1, 0, 0x80, 0], 4),
+        (vec![1, 0, 0, 1], 4),
+        // A lower id counts once the number of children is read.
+        (vec![1, 7, 8], 1),
+        (vec![1, 7, 0, 0x80, 0], 2),
+        (vec![1, 7, 8, 0, 0], 32),
+        (vec![1, 7, 0, 1, 0], 32),
+        // The tree is whole, or no node is left, or its depth is 17: nothing of the next is read.
+        (vec![2, 7, 0, 0], 32),
+        (vec![2, 7, 0, 0, 0x80, 0], 32),
+        (vec![1, 7, 7, 1], 32),
+        (vec![1, 7, 7, 1, 0x80, 0], 32),
+        (vec![2, 7, 7, 2, 7, 0, 0, 0], 32),
+        (chain(17, 15, &[]), 1),
+        (chain(17, 15, &[0]), 4),
+        (chain(17, 16, &[]), 5),
+        (chain(17, 16, &[0]), 5),
+        (chain(64, 16, &[0x80, 0]), 5),
+        (chain(16, 16, &[]), 32),
+        (chain(16, 15, &[1, 0, 0, 0]), 6),
+        (chain(16, 15, &[1, 0, 0]), 33),
+        (vec![2, 7, 7, 1, 7, 0, 0, 0x80], 6),
+        (vec![2, 7, 7, 1, 9, 0, 0], 33),
+        (vec![2, 7, 8, 1, 8, 0, 0], 33),
+    ] {
+        refused(reflected(&bytes), number);
+        for mut buffer in [vec![], vec![0xEE; 1_000]] {
+            refused(lent::reflected(&bytes, &mut buffer), number);
+            assert!(buffer.iter().all(|&byte| byte == 0xEE));
+        }
+    }
+    refused(lent::reflected(&[2, 7, 8, 1, 9, 0, 0], &mut [0; 14]), 30);
 }

@@ -1,11 +1,12 @@
 //! Names, numbers and version are those of include/zintukor.h and of the engine's source.
 
-use zintukor::{Refusal, PAGE_LINE, ROWS, SMALL_REQUESTS, VERSION};
+use zintukor::{Refusal, NODES, PAGE_LINE, REFLECTED, ROWS, SMALL_REQUESTS, VERSION};
 
 const HEADER: &str = include_str!("../../../include/zintukor.h");
 const ENGINE: &str = include_str!("../../../crates/rules/src/lib.rt");
 const BOARD: &str = include_str!("../../../crates/board/src/lib.rt");
 const SMALL: &str = include_str!("../../../crates/small_requests/src/lib.rt");
+const NODES_READ: &str = include_str!("../../../crates/reflected/src/nodes.rt");
 const CALLS: &str = include_str!("../../../crates/zintukor_c/src/lib.rt");
 const DECLARED: &str = include_str!("../src/ffi.rs");
 
@@ -67,7 +68,7 @@ fn calls(source: &str, before: &str) -> Vec<String> {
 #[test]
 fn one_declaration_for_each_call() {
     let engine = calls(CALLS, "pub extern \"C\" fn ");
-    assert_eq!(engine.len(), 8);
+    assert_eq!(engine.len(), 9);
     assert_eq!(calls(HEADER, "uint64_t "), engine);
     assert_eq!(calls(DECLARED, "pub(crate) fn "), engine);
 }
@@ -84,4 +85,8 @@ fn one_limit() {
     for line in ["const GREATEST_SIZE: u32 = 6;", "const ROW: usize = 22;", "6 => 264,"] {
         assert!(SMALL.contains(line), "{line}");
     }
+    assert_eq!(value("MOST_NODES"), NODES.to_string());
+    assert!(NODES_READ.contains(&format!("const MOST_NODES: usize = {NODES};")));
+    // That no list is longer is told by tests/reflected.rs.
+    assert_eq!(value("MOST_REFLECTED"), REFLECTED.to_string());
 }

@@ -1,15 +1,15 @@
 //! The wrappers themselves: refusals and their texts, the encoders, owned columns and tables, small
-//! requests one after another.
+//! requests one after another, the list of a reflected tree.
 
 use std::collections::HashSet;
 use std::error::Error;
 
-use zintukor::{entry, fresh, grants, lent, order, read, refine, small_requests, store, Columns};
+use zintukor::{entry, fresh, grants, lent, order, read, refine, reflected, small_requests, store, Columns};
 use zintukor::{Decision, Grant, Order, Pass, Refusal, Request, Table};
 
 #[test]
 fn each_refusal_has_its_number_and_its_text() {
-    let numbers = [1, 2, 3, 4, 5, 6, 7, 10, 11, 12, 13, 14, 15, 20, 21, 22, 23, 24, 26, 30, 31];
+    let numbers = [1, 2, 3, 4, 5, 6, 7, 10, 11, 12, 13, 14, 15, 20, 21, 22, 23, 24, 26, 30, 31, 32, 33];
     let all: Vec<u32> = Refusal::ALL.iter().map(|refusal| refusal.number()).collect();
     assert_eq!(all, numbers);
     for number in (0..=1_000).chain([u32::MAX]) {
@@ -21,7 +21,8 @@ fn each_refusal_has_its_number_and_its_text() {
     let texts: HashSet<&str> = Refusal::ALL.iter().map(|refusal| refusal.text()).collect();
     assert_eq!(texts.len(), numbers.len());
     let error: Box<dyn Error> = Refusal::BufferShort.into();
-    assert_eq!(error.to_string(), "refused (30): the buffer is too short for the stored table or the page");
+    let text = "the buffer is too short for the stored table, the page or the requests";
+    assert_eq!(error.to_string(), format!("refused (30): {text}"));
 }
 
 #[test]
@@ -109,4 +110,33 @@ fn small_requests_one_after_another() {
     assert_eq!(small_requests(6).nth(263), small_requests(6).last());
     assert_eq!(small_requests(6).nth(264), None);
     assert_eq!(lent::small_requests(1, &mut [0; 13]), Err(Refusal::BufferShort));
+}
+
+#[test]
+fn the_list_of_a_reflected_tree() {
+    // 300 over 2 and 3 with 301 below the line; 2 over 4 with 5 below it.
+    let tree = [4, 0xAC, 2, 0xAD, 2, 2, 2, 5, 1, 4, 0, 0, 3, 0, 0];
+    let requests = [
+        Request::upright(300).tree(entry(300, 1).child(entry(2, 4).child(entry(301, 1)))),
+        Request::upright(2).trees([entry(2, 3), entry(3, 1)]),
+        Request::upright(2).tree(entry(2, 1).child(entry(4, 1).child(entry(5, 1)))),
+    ];
+    let mut list = vec![0xAC, 2, 6];
+    let mut table = Table::fresh(256, 300, 6).unwrap();
+    for (request, count) in requests.iter().zip([3, 4, 6]) {
+        list.push(request.bytes().len() as u8);
+        list.extend(request.bytes());
+        assert_eq!(table.refine(&request.bytes()), Ok(count));
+    }
+    assert_eq!(reflected(&tree), Ok(list.clone()));
+    assert_eq!(table.order(4, 301), Ok(Order::FirstIsSubgroup));
+    assert_eq!(table.order(5, 3), Ok(Order::Incomparable));
+    let mut buffer = vec![0xEE; list.len() + 1];
+    assert_eq!(lent::reflected(&tree, &mut buffer), Ok(list.len()));
+    assert_eq!(buffer, [&list[..], &[0xEE]].concat());
+    assert_eq!(lent::reflected(&tree, &mut buffer[1..list.len()]), Err(Refusal::BufferShort));
+    assert_eq!(reflected(&tree[..14]), Err(Refusal::NumberCut));
+    assert_eq!(reflected(&[&tree[..], &[0]].concat()), Err(Refusal::BytesRemain));
+    assert_eq!(reflected(&[0]), Err(Refusal::Nodes));
+    assert_eq!(reflected(&[2, 7, 8, 1, 7, 0, 0]), Err(Refusal::IdRepeats));
 }

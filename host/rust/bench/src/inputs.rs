@@ -1,6 +1,6 @@
 //! The inputs: tables, requests and grants, made at random from fixed seeds.
 
-use zintukor::{entry, Columns, Entry, Grant, Pass, Request, Table};
+use zintukor::{entry, write_number, Columns, Entry, Grant, Pass, Request, Table};
 
 /// Random numbers (xorshift).
 pub struct Rng(u64);
@@ -113,6 +113,24 @@ pub fn shuffled<T: Clone>(list: &[T]) -> Vec<T> {
         list.swap(at, rng.below(at + 1));
     }
     list
+}
+
+/// A reflected tree of so many nodes: each has so many children, as long as nodes are left. Ids have
+/// one byte to three.
+pub fn reflected(nodes: usize, children: usize) -> Vec<u8> {
+    // Node k's children are those after k * children, level by level.
+    fn add(tree: &mut Vec<u8>, k: usize, nodes: usize, children: usize) {
+        let below = (k * children + 1..).take(children).take_while(|&child| child < nodes);
+        let lower = if k * children + 1 < nodes { 15_000 + 40 * k as u32 } else { 0 };
+        for number in [1 + 40 * k as u32, lower, below.clone().count() as u32] {
+            write_number(tree, number);
+        }
+        below.for_each(|child| add(tree, child, nodes, children));
+    }
+    let mut tree = Vec::new();
+    write_number(&mut tree, nodes as u32);
+    add(&mut tree, 0, nodes, children);
+    tree
 }
 
 /// Copies columns over others of the same length.

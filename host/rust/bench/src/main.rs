@@ -7,13 +7,14 @@
 
 mod inputs;
 mod instead;
+mod reflected;
 mod small;
 mod timing;
 
 use std::hint::black_box;
 
 use timing::{compare, compare_reading, Times};
-use zintukor::{Columns, Decision, Grant, Pass, Table, SMALL_REQUESTS};
+use zintukor::{Columns, Decision, Grant, Pass, Table, NODES, REFLECTED, SMALL_REQUESTS};
 use zintukor_plain::Refused;
 
 /// Prints rows of one call by size, with the growth from the row before.
@@ -213,6 +214,29 @@ fn small_sizes() {
     small_requests(&mut Sizes::new("small"), "size 6, trees and a sort", 6, zintukor_plain::small_requests);
 }
 
+/// A plain version of reflected.
+type PlainReflected = fn(&[u8], &mut [u8]) -> Result<usize, Refused>;
+
+/// A reflected tree of 64 nodes with so many children each, into a buffer of just its list.
+fn reflected(what: &str, children: usize, plain: PlainReflected) {
+    let tree = inputs::reflected(NODES, children);
+    let length = zintukor::lent::reflected(&tree, &mut [0; REFLECTED]).unwrap();
+    let (mut one, mut other) = (vec![0; length], vec![0; length]);
+    let times = compare_reading(
+        || zintukor::lent::reflected(black_box(&tree), &mut one),
+        || plain(black_box(&tree), &mut other),
+    );
+    assert_eq!(one, other);
+    Sizes::new("reflect").row(what, times);
+}
+
+fn reflected_trees() {
+    reflected("64 nodes, 2 children each", 2, reflected::reflected);
+    reflected("64 nodes, 63 leaves", 63, reflected::reflected);
+    // The tests' plain version makes a tree.
+    reflected("64 nodes, 2 children each, a tree", 2, zintukor_plain::reflected);
+}
+
 fn main() {
     if cfg!(debug_assertions) {
         eprintln!("These times mean nothing without --release.");
@@ -224,5 +248,6 @@ fn main() {
     order();
     store_and_read();
     small_sizes();
+    reflected_trees();
     instead::report();
 }

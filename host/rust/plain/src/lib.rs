@@ -1,4 +1,4 @@
-//! Document 01 and notes 1 to 4 of document 02 in plain Rust, written from their sentences and
+//! Document 01 and notes 1 to 5 of document 02 in plain Rust, written from their sentences and
 //! from nothing else.
 //!
 //! The tests compare the engine with it, answer by answer and column by column, and the
@@ -12,6 +12,7 @@ mod ledger;
 mod number;
 mod page;
 mod refine;
+mod reflected;
 mod request;
 mod small;
 mod stored;
@@ -22,6 +23,7 @@ pub use ledger::{GroupGrant, Ledger};
 pub use number::{write_number, Reader};
 pub use page::page;
 pub use refine::refine;
+pub use reflected::{reflected, Reflected, ReflectedGroup};
 pub use request::{Entry, Request};
 pub use small::small_requests;
 pub use stored::{read, store};

@@ -28,7 +28,7 @@ pub struct Request {
 
 /// A number that may not be 0.
 #[inline]
-fn not_zero(reader: &mut Reader) -> Result<u32, Refused> {
+pub(crate) fn not_zero(reader: &mut Reader) -> Result<u32, Refused> {
     match reader.number()? {
         0 => Err(Refused(4)),
         value => Ok(value),

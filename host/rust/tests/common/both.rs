@@ -237,4 +237,24 @@ impl Both {
         }
         engine
     }
+
+    /// The call on a lent buffer, and the one that gives the list.
+    pub fn reflected(&mut self, bytes: &[u8], buffer: &mut Guarded<u8>) -> Answer {
+        let before = buffer.clone();
+        let mut other = buffer.clone();
+        let engine = of_engine(zintukor::lent::reflected(bytes, buffer.part_mut()));
+        let plain = of_plain(zintukor_plain::reflected(bytes, other.part_mut()));
+        let refused = self.compare("reflected", engine, plain);
+        buffer.assert_is(&other, "reflected: buffer");
+        if refused {
+            buffer.assert_is(&before, "reflected refused: buffer");
+        }
+        match (engine, zintukor::reflected(bytes)) {
+            (Answer::Count(length), list) => assert_eq!(list.as_deref(), Ok(&buffer.part()[..length])),
+            // As a vector, a list has room.
+            (Answer::Refused(30), list) => assert!(list.is_ok_and(|list| list.len() > buffer.len())),
+            (refused, list) => assert_eq!(of_engine(list.map(|list| list.len())), refused),
+        }
+        engine
+    }
 }

@@ -11,7 +11,7 @@ pub fn id_at(entry: usize) -> usize {
 }
 
 /// A forest's trees and the children of each entry, from the entries' depths in left pre-order.
-fn shape(depths: &[usize]) -> (u32, Vec<u32>) {
+pub fn shape(depths: &[usize]) -> (u32, Vec<u32>) {
     let trees = depths.iter().filter(|&&depth| depth == 1).count() as u32;
     let children = |at: usize| {
         let below = depths[at + 1..].iter().take_while(|&&depth| depth > depths[at]);
@@ -21,7 +21,7 @@ fn shape(depths: &[usize]) -> (u32, Vec<u32>) {
 }
 
 /// Depths in left pre-order, at most `deepest`: flat, a chain, a star, or grown at random.
-fn depths(rng: &mut Rng, entries: usize, deepest: usize) -> Vec<usize> {
+pub fn depths(rng: &mut Rng, entries: usize, deepest: usize) -> Vec<usize> {
     let kind = rng.below(6);
     let mut depths = vec![1];
     while depths.len() < entries {
