@@ -13,7 +13,7 @@ use Rattle.reflected_tree.specs.Written.{roots, own_requests, requests_of, list_
 use Rattle.reflected_tree.specs.Reading.{most_nodes}
 use Rattle.reflected.specs.declared.nodes.Node.{Node}
 use Rattle.reflected.specs.Inside.Nodes.{child_count, stored, Holds}
-use Rattle.reflected.specs.Inside.Writing.{node_at, roots_at, own_at, listed, Walks, Sound, Stored}
+use Rattle.reflected.specs.Inside.Writing.{node_in, roots_at, own_at, sized_all, Walks, Sound, Stored}
 use Rattle.reflected.proofs.Filling.{length_stored}
 use Rattle.reflected.proofs.Written.{requests_at, list_of, list_most}
 
@@ -24,9 +24,9 @@ node_of i u l c = record { upper = u; lower = l; children = child_count c; group
 
 abbrev pub Stands : List Node → ℕ → Reflected → Type 0
 Stands nodes i empty = Unit {0}
-Stands nodes i (node u l c r) = (node_at nodes i ≡ node_of i u l c) × Stands nodes (i + 1) c × Stands nodes (i + 1 + node_count c) r
+Stands nodes i (node u l c r) = (node_in nodes i ≡ node_of i u l c) × Stands nodes (i + 1) c × Stands nodes (i + 1 + node_count c) r
 
-stands : (nodes : List Node) (i : ℕ) (t : Reflected) → ((k : ℕ) → k < node_count t → node_at nodes (i + k) ≡ node_at (stored i t) k) → Stands nodes i t
+stands : (nodes : List Node) (i : ℕ) (t : Reflected) → ((k : ℕ) → k < node_count t → node_in nodes (i + k) ≡ node_in (stored i t) k) → Stands nodes i t
 stands nodes i empty h = tt
 stands nodes i (node u l c r) h =
     let sc = stored (i + 1) c in
@@ -41,7 +41,7 @@ stands nodes i (node u l c r) h =
       stands nodes (i + 1 + node_count c) r
           (λ k l.
           let e : i + suc (node_count c + k) ≡ i + 1 + node_count c + k = omega arith in
-          rw e at (h (suc (node_count c + k)) (omega arith)) ∙ ap (λ m. node_at (sc ++ sr) (m + k)) (sym n) ∙ get_or-append-add sc sr k _),
+          rw e at (h (suc (node_count c + k)) (omega arith)) ∙ ap (λ m. node_in (sc ++ sr) (m + k)) (sym n) ∙ get_or-append-add sc sr k _),
     )
 
 pub stands_held : (nodes : List Node) (t : Reflected) → Holds nodes t → Stands nodes 0 t
@@ -49,7 +49,7 @@ stands_held nodes t h =
     stands nodes 0 t
     (λ k l.
     let e : 0 + k ≡ k = omega arith in
-    ap (node_at nodes) e ∙ sym (get_or-take (node_count t) nodes k _ l) ∙ ap (λ s. node_at s k) h)
+    ap (node_in nodes) e ∙ sym (get_or-take (node_count t) nodes k _ l) ∙ ap (λ s. node_in s k) h)
 
 -- ## What the nodes give
 
@@ -62,7 +62,7 @@ module _ (nodes : List Node) where
   but_two : (n : ℕ) → suc (n + 1) - 2 ≡ n
   but_two n = omega arith
 
-  own_stored : (i u l : ℕ) (c : Reflected) → node_at nodes i ≡ node_of i u l c → Stands nodes (i + 1) c → own_at nodes i ≡ own_requests u l c
+  own_stored : (i u l : ℕ) (c : Reflected) → node_in nodes i ≡ node_of i u l c → Stands nodes (i + 1) c → own_at nodes i ≡ own_requests u l c
   unfolding own_at
   own_stored i u l empty e h = rw e
   own_stored i u l (node v m d empty) e h = rw (e, h.0, but_two (group_count (node v m d empty)))
@@ -100,7 +100,7 @@ module _ (nodes : List Node) where
   groups_some empty h = absurd (omega arith)
   groups_some (node u l c r) h = omega arith
 
-  sound_here : (i u l : ℕ) (c : Reflected) → node_at nodes i ≡ node_of i u l c → Stands nodes (i + 1) c → i + 1 + node_count c ≤ length nodes → node_count c ≤ most_nodes → Sound nodes i
+  sound_here : (i u l : ℕ) (c : Reflected) → node_in nodes i ≡ node_of i u l c → Stands nodes (i + 1) c → i + 1 + node_count c ≤ length nodes → node_count c ≤ most_nodes → Sound nodes i
   sound_here i u l c e h m n =
       record {
         place = omega arith;
@@ -128,7 +128,7 @@ module _ (nodes : List Node) where
       sound_stored 0 s.tree (stands_held nodes s.tree s.held) (omega arith) (omega arith) i (omega arith) (omega arith)
 
   list_one : {count : ℕ} (t : Reflected) → child_count t ≡ 1 → node_count t ≡ count → Stands nodes 0 t → list_of nodes count ≡ list_bytes t
-  unfolding list_of listed list_bytes
+  unfolding list_of sized_all list_bytes
   list_one empty e m h = absurd (omega arith)
   list_one (node u l c empty) e m h =
       let n : ends_as c + 0 ≡ ends_as c = omega arith in

@@ -5,7 +5,7 @@ ghost use Rattle.number.specs.Number.{bytes_of};
 ghost use Rattle.request.specs.Bytes.{trees_bytes, request_bytes};
 ghost use Rattle.reflected_tree.specs.Reading.{most_nodes};
 ghost use Rattle.reflected_tree.specs.Written.{list_bytes};
-ghost use Rattle.reflected.specs.Inside.Writing.{numbers_bytes, sized, chain_of, roots_at, spread_at, own_at, listed, Walks, Sound, Stored};
+ghost use Rattle.reflected.specs.Inside.Writing.{numbers_bytes, sized, chain_of, roots_at, spread_at, own_at, sized_all, Walks, Sound, Stored};
 
 use crate::nodes::{MOST_NODES, Node};
 use number::{number_length, write_number};
@@ -121,7 +121,7 @@ fn sized_length(bytes: usize) -> usize
 #[tactic(auto, using(number::proofs::Laws::number_count, crate::proofs::Written::numbers_few, crate::proofs::Written::sized_count, crate::proofs::Written::spread_most, crate::proofs::Written::own_none, crate::proofs::Written::own_step, crate::proofs::Written::rest_some, crate::proofs::Written::rest_none))]
 fn own_length(nodes: &[Node; MOST_NODES], i: usize) -> usize
     requires { Sound nodes.now i }
-    ensures { result ≡ length (listed (own_at nodes.now i)) }
+    ensures { result ≡ length (sized_all (own_at nodes.now i)) }
 {
     let node = nodes[i];
     if node.children == 0 {
@@ -137,8 +137,8 @@ fn own_length(nodes: &[Node; MOST_NODES], i: usize) -> usize
 // Writes a node's requests, each after its length, for which there is room: a leaf's are none.
 #[tactic(auto, using(crate::proofs::Written::own_step, crate::proofs::Written::rest_some, rules::proofs::Buffers::after_none, crate::proofs::Written::own_none, crate::proofs::Written::own_one, crate::proofs::Written::both_written))]
 fn write_own(writer: &mut Writer<'_>, nodes: &[Node; MOST_NODES], i: usize)
-    requires { Sound nodes.now i × HasRoom writer.old (length (listed (own_at nodes.now i))) }
-    ensures { WroteAll writer.old writer.new (listed (own_at nodes.now i)) }
+    requires { Sound nodes.now i × HasRoom writer.old (length (sized_all (own_at nodes.now i))) }
+    ensures { WroteAll writer.old writer.new (sized_all (own_at nodes.now i)) }
 {
     let node = nodes[i];
     if node.children == 0 {

@@ -1,8 +1,8 @@
 -- What the nodes that are left give makes the whole.
 use Rattle.std.proofs.Common.{◌≡◌, ◌+◌, ◌-◌, length}
-use Rattle.reflected.specs.Inside.Writing.{listed}
+use Rattle.reflected.specs.Inside.Writing.{sized_all}
 use Rattle.reflected.proofs.Written.{requests_at, list_of}
 use Rattle.reflected.proofs.writing.list_length.Given as goal
 
 abbrev pub invariant-loop-i : goal.invariant-loop-i
-invariant-loop-i l = l.bytes + length (listed (requests_at l.nodes l.i (l.count - l.i))) ≡ length (list_of l.nodes l.count)
+invariant-loop-i l = l.bytes + length (sized_all (requests_at l.nodes l.i (l.count - l.i))) ≡ length (list_of l.nodes l.count)
