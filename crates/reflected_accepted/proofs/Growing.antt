@@ -32,7 +32,7 @@ use Rattle.reflected_tree.specs.Reflected.{Reflected, empty, node, lower_of, gro
 use Rattle.reflected_tree.specs.Written.{roots, explode, chain, spread, own_requests, requests_of}
 use Rattle.reflected_tree.proofs.Groups.{parts, lower_length, groups_length}
 use Rattle.reflected_tree.proofs.Read.{LegalIds}
-use Rattle.reflected_accepted.specs.Promise.{carried}
+use Rattle.reflected_accepted.specs.Promise.{carried_out}
 use Rattle.reflected_accepted.proofs.Legal.{roots_total, roots_times, roots_length, chain_legal, spread_legal, request_short}
 
 -- a table of 256 rows that agrees with a ledger of these two sequences
@@ -50,22 +50,22 @@ along e f k = record { ledger = k.ledger; meets = k.meets; room = k.room; left_i
 pub record Grown (s : Table) (qs : List Request) (l r : List Entry) : Type 0 where
   pub short : Short (map request_bytes qs)
   pub last : Table
-  pub all_accepted : carried s (map request_bytes qs) ≡ answer last
+  pub all_accepted : carried_out s (map request_bytes qs) ≡ answer last
   pub state : State last l r
 
 grown_along : {s : Table} {qs : List Request} {l r l' r' : List Entry} → l ≡ l' → r ≡ r' → Grown s qs l r → Grown s qs l' r'
 grown_along e f g = record { short = g.short; last = g.last; all_accepted = g.all_accepted; state = along e f g.state }
 
 no_requests : {s : Table} {l r : List Entry} → State s l r → Grown s [] l r
-unfolding carried
+unfolding carried_out
 no_requests {s} k = record { short = tt; last = s; all_accepted = refl; state = k }
 
-carried_append : (s : Table) (ps qs : List Request) → carried s (map request_bytes (ps ++ qs)) ≡ then (carried s (map request_bytes ps)) (λ h. carried h (map request_bytes qs))
-unfolding carried
+carried_append : (s : Table) (ps qs : List Request) → carried_out s (map request_bytes (ps ++ qs)) ≡ then (carried_out s (map request_bytes ps)) (λ h. carried_out h (map request_bytes qs))
+unfolding carried_out
 carried_append s [] qs = refl
 carried_append s (p ∷ ps) qs = go (answer_to s (request_bytes p)) _ _ (carried_append (table_after s (request_bytes p)) ps qs)
   where
-    go : (a : Answer ℕ) (x y : Answer Table) → x ≡ then y (λ h. carried h (map request_bytes qs)) → then a (λ _. x) ≡ then (then a (λ _. y)) (λ h. carried h (map request_bytes qs))
+    go : (a : Answer ℕ) (x y : Answer Table) → x ≡ then y (λ h. carried_out h (map request_bytes qs)) → then a (λ _. x) ≡ then (then a (λ _. y)) (λ h. carried_out h (map request_bytes qs))
     go (answer n) x y e = e
     go (refused n) x y e = refl
 
@@ -156,7 +156,7 @@ module _ {s : Table} (u w : ℕ) (t : Forest) (a b a' b' : List Entry) (k : Stat
   }
 
   exploded : Grown s (q ∷ []) (a ++ (pre_l t ++ b)) (a' ++ (pre_r t ++ b'))
-  unfolding carried
+  unfolding carried_out
   exploded = record {
     short = (request_short q legal, tt);
     last = table_after s (request_bytes q);

@@ -33,7 +33,7 @@ use Rattle.reflected_tree.specs.Reading.{most_nodes}
 use Rattle.reflected_tree.proofs.Groups.{count_most}
 use Rattle.reflected_tree.proofs.Positions.{sequences_say}
 use Rattle.reflected_tree.proofs.Read.{LegalIds, reflected_read}
-use Rattle.reflected_accepted.specs.Promise.{fresh_table, GroupOf, table2_order, Moves, MovesOver}
+use Rattle.reflected_accepted.specs.Promise.{GroupOf, table2_order, Moves, MovesOver}
 use Rattle.reflected_accepted.proofs.Growing.{State, along, Grown, trees_grown}
 
 -- ## The list, as `grow` reads it
@@ -105,7 +105,7 @@ module _ (c : Columns) (good : lengths_bad c ≡ false) (rows : length c.id ≡ 
   fresh_one : counted (fresh_rows c u quota) ≡ answer 1
   fresh_one = ap counted (fresh_rows_lem u quota (ne_eqb u 0 (λ e. omega (arith, ids.0))) (ne_eqb quota 0 (λ e. omega arith)) c good)
 
-  start : State (fresh_table c u quota) (entry u quota ∷ []) (entry u quota ∷ [])
+  start : State (engine_start c u quota) (entry u quota ∷ []) (entry u quota ∷ [])
   unfolding engine_start fresh_ledger
   start = record {
     ledger = fresh_ledger (length c.id) u quota;
@@ -115,11 +115,11 @@ module _ (c : Columns) (good : lengths_bad c ≡ false) (rows : length c.id ≡ 
     right_is = refl;
   }
 
-  grown : Grown (fresh_table c u quota) (requests_of t) ([] ++ (groups t ++ [])) ([] ++ (groups_r t ++ []))
+  grown : Grown (engine_start c u quota) (requests_of t) ([] ++ (groups t ++ [])) ([] ++ (groups_r t ++ []))
   grown =
       let z : quota ≡ ends_as b = omega arith in
       let k = along (ap (λ q. entry u q ∷ []) z) (ap (λ q. entry u q ∷ []) z) start in
-      trees_grown t ids [] [] [] [] (fresh_table c u quota) k (λ x. omega (arith, distinct x)) (omega (arith, most))
+      trees_grown t ids [] [] [] [] (engine_start c u quota) k (λ x. omega (arith, distinct x)) (omega (arith, most))
 
   moves : Moves c t
   unfolding list_bytes

@@ -6,10 +6,11 @@ use Rattle.rules.specs.Limits.{most_rows}
 use Rattle.request.specs.Entries.{has}
 use Rattle.request_log.specs.Log.{pair_of, requests_at}
 use Rattle.request_log.specs.declared.Pair.{Pair}
-use Rattle.table.specs.Columns.{Columns, Table, counted, afterwards}
+use Rattle.table.specs.Columns.{Columns, Table, counted}
 use Rattle.table.specs.Check.{lengths_bad}
 use Rattle.fresh.specs.Fresh.{fresh_rows}
 use Rattle.refine.specs.Refine.{answer_to, table_after}
+use Rattle.ledger.specs.Calls.{engine_start}
 use Rattle.order.specs.declared.Ordered.{Ordered}
 use Rattle.order.specs.Order.{order, order_by}
 use Rattle.reflected_tree.specs.Reflected.{Reflected, groups}
@@ -18,13 +19,9 @@ use Rattle.reflected_tree.specs.Table2.{table2}
 use Rattle.reflected_tree.specs.Reading.{reflected_of}
 
 -- requests carried out one after another, each on the table that the one before left; the first refusal ends them
-unfoldable pub carried : Table → List (List ℕ) → Answer Table
-carried t [] = answer t
-carried t (request ∷ others) = then (answer_to t request) λ _. carried (table_after t request) others
-
--- the table that fresh leaves
-abbrev pub fresh_table : Columns → (id quota : ℕ) → Table
-fresh_table c id quota = record { columns = afterwards (fresh_rows c id quota) c; count = 1 }
+unfoldable pub carried_out : Table → List (List ℕ) → Answer Table
+carried_out t [] = answer t
+carried_out t (request ∷ others) = then (answer_to t request) λ _. carried_out (table_after t request) others
 
 -- x is a group of the tree
 abbrev pub GroupOf : Reflected → ℕ → Type 0
@@ -41,10 +38,10 @@ pub record Moves (c : Columns) (t : Reflected) : Type 0 where
   pub requests : List (List ℕ)
   pub pair_is : pair_of (list_bytes t) ≡ answer pair
   pub requests_are : requests_at (list_bytes t) pair.next ≡ record { bytes = requests; ended = answer tt }
-  -- fresh accepts the pair, and refine each request on the table that the one before left
+  -- fresh accepts the pair; from the columns that it left refine accepts each request, on the table that the one before left
   pub fresh_accepts : counted (fresh_rows c pair.id pair.quota) ≡ answer 1
   pub last : Table
-  pub all_accepted : carried (fresh_table c pair.id pair.quota) requests ≡ answer last
+  pub all_accepted : carried_out (engine_start c pair.id pair.quota) requests ≡ answer last
   -- for every two groups of the tree the order that the table then answers is Table 2
   pub order_is : (x y : ℕ) → GroupOf t x → GroupOf t y → order last.columns last.count x y ≡ table2_order t x y
 
