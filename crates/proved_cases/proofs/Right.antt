@@ -35,10 +35,10 @@ use Rattle.reflected_tree.specs.Reading.{node_at, node_left, node_trees_at, tree
 use Rattle.replay.specs.Run.{answers_to, table_end}
 use Rattle.replay.specs.Replay.{end_text, replay_from, replay_of, text_of}
 use Rattle.proved_cases.specs.Cases.{computed, stated}
-use Rattle.proved_cases.specs.Table.{cases, beside_request, upright_request, inverted_request, ten_of3, figure_c, list_c, figure_d, list_d, first9, second9, third9, fourth9, log9, lines9, rows9, calls9, replies9, requests9}
+use Rattle.proved_cases.specs.Table.{cases, beside_request, upright_request, inverted_request, ten_of3, figure_c, tree_c, list_c, figure_d, tree_d, list_d, first9, second9, third9, fourth9, log9, lines9, rows9, calls9, replies9, requests9}
 
 pub cases_right : map computed cases ≡ map stated cases
-unfolding cases beside_request upright_request inverted_request ten_of3 figure_c list_c figure_d list_d first9 second9 third9 fourth9 log9 lines9 rows9 calls9 replies9 requests9 number_at bit_groups_at last_byte
+unfolding cases beside_request upright_request inverted_request ten_of3 figure_c tree_c list_c figure_d tree_d list_d first9 second9 third9 fourth9 log9 lines9 rows9 calls9 replies9 requests9 number_at bit_groups_at last_byte
     followed added_to bytes_of bit_groups_of rows_from put some_row some_pair lengths_bad count_bad value_bad same_id ranges_meet apart sound_rows checked fresh_rows
     subgroup order_by row_of order_in order grant_bad checked_grant grant_at grants_from grants_by grant_bytes grants_bytes windows applies_to is_open runs has_ended
     yet_to_begin those some_open greatest_last least_first not_on prolonged run_from dated question_bad decided positive_at entry_at trees_by tree_by not_full trees_at direction_of request_of some_entry

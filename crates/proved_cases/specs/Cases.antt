@@ -65,8 +65,8 @@ pub data Case : Type 0 where
   smalls : (size : ℕ) → List (List ℕ) → Case
   -- a reflected tree's numbers, and its list: the pair's numbers, and each request's after its length
   moved : List ℕ → Answer (List (List ℕ)) → Case
-  -- a reflected tree's numbers: its list is carried out, and of every two of its groups the table's order is Table 2's
-  compared : List ℕ → Case
+  -- a reflected tree's numbers, and the tree that is read: its list is carried out, and of every two of its groups the table's order is Table 2's
+  compared : List ℕ → Reflected → Case
   -- fresh of a group and a quota, then calls; a pass of the group x, noted after n of them, and grants; feature and day. The pass's note and the grants',
   -- what is decided from their numbers, and what the ledger's last order gives
   noted : (id quota : ℕ) → List Call → (n x : ℕ) → List NotedGrant → (feature day : ℕ) → List Note → (by_numbers by_order : Answer Decision) → Case
@@ -163,7 +163,7 @@ computed (falls day said) = date (date_of day)
 computed (paged l r day gs said) = page (page_of l r day (grants_bytes gs))
 computed (smalls size requests) = list (list_bytes size)
 computed (moved numbers said) = moves (then (reflected_of (stream numbers)) λ t. answer (tree_list.list_bytes t))
-computed (compared numbers) =
+computed (compared numbers tree) =
     orders (then (reflected_of (stream numbers)) λ t.
     answer (of_every_two (order_in (rows_after (replay_of blank (tree_list.list_bytes t)))) (ids t) (ids t)))
 computed (noted id quota calls n x hs feature day ns by_numbers by_order) =
@@ -183,7 +183,6 @@ stated (falls day said) = date said
 stated (paged l r day gs said) = page (then said λ text. answer (lines text))
 stated (smalls size requests) = list (flatten requests)
 stated (moved numbers said) = moves (then said λ parts. answer (stream (flatten parts)))
-stated (compared numbers) =
-    orders (then (reflected_of (stream numbers)) λ t.
-    answer (of_every_two (λ x y. answer (order_by (eqb x y) (table2 t x y) (table2 t y x))) (ids t) (ids t)))
+stated (compared numbers tree) =
+    orders (answer (of_every_two (λ x y. answer (order_by (eqb x y) (table2 tree x y) (table2 tree y x))) (ids tree) (ids tree)))
 stated (noted id quota calls n x hs feature day ns by_numbers by_order) = decisions ns by_numbers by_order

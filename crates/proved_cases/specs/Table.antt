@@ -9,6 +9,7 @@ use Rattle.grant.specs.Grant.{grant}
 use Rattle.renewals.specs.Dating.{on_open, on_until, ended, ahead, never}
 use Rattle.calendar.specs.Calendar.{date}
 use Rattle.ledger.specs.Calls.{Call, refine, order, Reply, refine_says, order_says}
+use Rattle.reflected_tree.specs.Reflected.{Reflected, empty, node}
 use Rattle.proved_cases.specs.Cases.{Case, NotedGrant, Note, stored, made, grown, logged, asked, answered, falls, paged, smalls, moved, compared, noted, row, stream}
 
 -- a request by its numbers
@@ -53,10 +54,17 @@ ten_of3 =
     ∷ (12 ∷ 1 ∷ 1 ∷ 3 ∷ 1 ∷ 1 ∷ 0 ∷ 2 ∷ 1 ∷ 0 ∷ 3 ∷ 1 ∷ 0 ∷ [])
     ∷ []
 
+-- a leaf
+abbrev pub leaf : ℕ → Reflected → Reflected
+leaf u rest = node u 0 empty rest
+
 -- the reflected tree D, d over P1, p1 over T1, T2, T3 and P2, p2 over T4, T5, and its list: the pair; D over P1 over d; P1 and P2; P1 over T1 over p1;
 -- the three tasks; P2 over T4 over p2; the two tasks
 unfoldable pub figure_c : List ℕ
 figure_c = 8 ∷ 1 ∷ 11 ∷ 2 ∷ 2 ∷ 12 ∷ 3 ∷ 3 ∷ 0 ∷ 0 ∷ 4 ∷ 0 ∷ 0 ∷ 5 ∷ 0 ∷ 0 ∷ 6 ∷ 16 ∷ 2 ∷ 7 ∷ 0 ∷ 0 ∷ 8 ∷ 0 ∷ 0 ∷ []
+
+unfoldable pub tree_c : Reflected
+tree_c = node 1 11 (node 2 12 (leaf 3 (leaf 4 (leaf 5 empty))) (node 6 16 (leaf 7 (leaf 8 empty)) empty)) empty
 
 unfoldable pub list_c : List (List ℕ)
 list_c =
@@ -72,6 +80,9 @@ list_c =
 -- with T6 beside T4 and T5
 unfoldable pub figure_d : List ℕ
 figure_d = 9 ∷ 1 ∷ 11 ∷ 2 ∷ 2 ∷ 12 ∷ 3 ∷ 3 ∷ 0 ∷ 0 ∷ 4 ∷ 0 ∷ 0 ∷ 5 ∷ 0 ∷ 0 ∷ 6 ∷ 16 ∷ 3 ∷ 7 ∷ 0 ∷ 0 ∷ 8 ∷ 0 ∷ 0 ∷ 9 ∷ 0 ∷ 0 ∷ []
+
+unfoldable pub tree_d : Reflected
+tree_d = node 1 11 (node 2 12 (leaf 3 (leaf 4 (leaf 5 empty))) (node 6 16 (leaf 7 (leaf 8 (leaf 9 empty))) empty)) empty
 
 unfoldable pub list_d : List (List ℕ)
 list_d =
@@ -269,9 +280,9 @@ cases =
     ∷ smalls 4294967295 []
     -- reflected trees: the one of the rules, and the same with a leaf more; one node; one over another, with the greatest ids
     ∷ moved figure_c (answer list_c)
-    ∷ compared figure_c
+    ∷ compared figure_c tree_c
     ∷ moved figure_d (answer list_d)
-    ∷ compared figure_d
+    ∷ compared figure_d tree_d
     ∷ moved (1 ∷ 5 ∷ 0 ∷ 0 ∷ []) (answer ((5 ∷ 1 ∷ []) ∷ []))
     ∷ moved (2 ∷ 4294967295 ∷ 4294967294 ∷ 1 ∷ 4294967293 ∷ 0 ∷ 0 ∷ []) (answer ((4294967295 ∷ 3 ∷ []) ∷ (28 ∷ 4294967295 ∷ 0 ∷ 1 ∷ 4294967295 ∷ 1 ∷ 1 ∷ 4294967293 ∷ 1 ∷ 1 ∷ 4294967294 ∷ 1 ∷ 0 ∷ []) ∷ []))
     -- 32 for 0 and 65 nodes, a node after the whole tree, nodes that end too early, a leaf's lower id, an inner node without one; 4; 6; 33
