@@ -311,7 +311,7 @@ fn the_longest_list() {
     moved_over(&mut Both::default(), &bytes);
 }
 
-/// Every tree of up to eight nodes: each child count tried, as depths in left pre-order.
+/// Every tree of up to eight nodes: every list of depths that a left pre-order has is tried.
 #[test]
 fn every_small_tree() {
     fn grow(depths: &mut Vec<usize>, nodes: usize, found: &mut Vec<Vec<usize>>) {
