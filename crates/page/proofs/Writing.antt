@@ -80,6 +80,10 @@ module _ (l r day : ℕ) (bytes : List ℕ) (whole : ℕ) (begun : Writer) where
     written_out : page_text l r day h.grants ≡ [] → WroteAll begun w (lines_text l r day bytes)
     written_out e = subst (WroteAll begun w) (sym (h.split ∙ ap (λ rest. h.lines ++ rest) e ∙ append-nil h.lines)) h.wrote
 
+    -- so is it where the writer stands at its end
+    pub full : w.at ≡ begun.at + whole → WroteAll begun w (lines_text l r day bytes)
+    full e = written_out (none (page_text l r day h.grants) (omega (arith, text_count, h.wrote.place, e)))
+
     pub ends : left ≡ [] → WroteAll begun w (lines_text l r day bytes)
     unfolding page_text applying flat_map
     ends e = written_out (ap (page_text l r day) (dated_none (rw e at h.reads)))

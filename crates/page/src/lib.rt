@@ -31,16 +31,16 @@ fn count_lines(pass: Pass, grants: &[u8]) -> Result<usize, Refusal>
     Ok(lines)
 }
 
-// The second reading, as far as there are lines: they are written, each byte once.
+// The second reading, which ends with the last line, and is not begun where there is none: the lines are written, each byte once.
 fn write_lines(writer: &mut Writer<'_>, whole: usize, pass: Pass, day: u32, grants: &[u8])
     requires { Fits pass.l.0 pass.r.0 day grants.now whole writer.old }
     ensures { WroteAll writer.old writer.new (lines_text pass.l.0 pass.r.0 day grants.now) }
 {
+    if whole == 0 {
+        return;
+    }
     let end = writer.at + whole;
     for item in Grants::new(grants) {
-        if writer.at == end {
-            return;
-        }
         match item {
             // Not met: the first reading refused nothing.
             Err(_) => return,
@@ -48,6 +48,9 @@ fn write_lines(writer: &mut Writer<'_>, whole: usize, pass: Pass, day: u32, gran
                 if pass.covered_by(g) {
                     // Not refused: the grant has dates, and there is room.
                     let _ = write_line(&mut *writer, day, g);
+                    if writer.at == end {
+                        return;
+                    }
                 }
             }
         }

@@ -4,8 +4,8 @@
 use dating::Decided;
 use rules::Refusal;
 use script::{command, given};
-use script_values::{Bytes, narrow};
-use show::Shown;
+use script_values::{Bytes, narrow, room};
+use show::{Calls, Shown};
 use std::io;
 use std::io::Write;
 use writer::Writer;
@@ -34,18 +34,27 @@ fn decide(line: &[u8]) -> Result<Shown, Refusal> {
 
 // Writes the line that `may` prints of a question into so many bytes.
 fn may<W: Write>(out: &mut W, line: &[u8]) -> io::Result<()> {
-    show::written(out, given(line, 0), true, |buffer| {
-        let decided = decide::question(Bytes::of(line).as_slice());
-        decision_line::write_decision(&mut Writer::new(buffer, 0), decided).map(Shown::Bytes)
-    })
+    let mut buffer = show::unwritten();
+    let mut writer = Writer::new(&mut buffer[..room(given(line, 0))], 0);
+    let decided = decide::question(Bytes::of(line).as_slice());
+    let written = decision_line::write_decision(&mut writer, decided);
+    show::written(out, written.map(Shown::Bytes), &buffer, true)
 }
 
 // Each program's own calls, by their letters: one `main` for all would be no plainer.
+struct Decisions;
+
+impl Calls for Decisions {
+    fn call<W: Write>(out: &mut W, line: &[u8]) -> io::Result<()> {
+        match command(line) {
+            Some(b'd') => show::answer(out, decide(line)),
+            Some(b'q') => show::answer(out, decide::question(Bytes::of(line).as_slice()).map(shown)),
+            Some(b'm') => may(out, line),
+            _ => Ok(()),
+        }
+    }
+}
+
 fn main(rt: HostRuntime) -> io::Result<()> {
-    show::run(&rt, |out, line| match command(line) {
-        Some(b'd') => show::answer(out, decide(line)),
-        Some(b'q') => show::answer(out, decide::question(Bytes::of(line).as_slice()).map(shown)),
-        Some(b'm') => may(out, line),
-        _ => Ok(()),
-    })
+    show::run::<Decisions>(&rt)
 }

@@ -5,7 +5,7 @@ use boxes::{Box, Cut};
 use coordinates::{Coordinate, LValue, RValue};
 use script::{command, given};
 use script_values::{Bytes, narrow, room};
-use show::Shown;
+use show::{Calls, Shown};
 use std::io;
 use std::io::Write;
 use writer::Writer;
@@ -66,33 +66,37 @@ fn show_cut<W: Write>(out: &mut W, cut: Option<Cut>) -> io::Result<()> {
     }
 }
 
-// The call that a line's first word names, with the bytes that the line gives.
-fn call<W: Write>(out: &mut W, line: &[u8]) -> io::Result<()> {
-    match command(line) {
-        Some(b'n') => number(out, Bytes::of(line).as_slice(), given(line, 0)),
-        Some(b'w') => write(out, line),
-        Some(b'h') => write!(
-            out,
-            "{}",
-            Shown::from(area(line, 0).contains(area(line, 3)))
-        ),
-        Some(b'a') => write!(
-            out,
-            "{}",
-            Shown::from(area(line, 0).disjoint(area(line, 3)))
-        ),
-        // The child, and what is left.
-        Some(b'p') => show_cut(out, area(line, 0).next_child(given(line, 3))),
-        // The parent, and what its children share; upright where the last number is 0.
-        Some(b'c') => show_cut(
-            out,
-            area(line, 0).corner(given(line, 4) == 0, given(line, 3)),
-        ),
-        _ => Ok(()),
+// The call that a line's first word names, with the bytes that the line gives. Each program has its own calls, by their letters: one `main`
+// for all would be no plainer.
+struct Numbers;
+
+impl Calls for Numbers {
+    fn call<W: Write>(out: &mut W, line: &[u8]) -> io::Result<()> {
+        match command(line) {
+            Some(b'n') => number(out, Bytes::of(line).as_slice(), given(line, 0)),
+            Some(b'w') => write(out, line),
+            Some(b'h') => write!(
+                out,
+                "{}",
+                Shown::from(area(line, 0).contains(area(line, 3)))
+            ),
+            Some(b'a') => write!(
+                out,
+                "{}",
+                Shown::from(area(line, 0).disjoint(area(line, 3)))
+            ),
+            // The child, and what is left.
+            Some(b'p') => show_cut(out, area(line, 0).next_child(given(line, 3))),
+            // The parent, and what its children share; upright where the last number is 0.
+            Some(b'c') => show_cut(
+                out,
+                area(line, 0).corner(given(line, 4) == 0, given(line, 3)),
+            ),
+            _ => Ok(()),
+        }
     }
 }
 
-// Each program's own calls, by their letters: one `main` for all would be no plainer.
 fn main(rt: HostRuntime) -> io::Result<()> {
-    show::run(&rt, |out, line| call(out, line))
+    show::run::<Numbers>(&rt)
 }

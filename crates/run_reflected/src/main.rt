@@ -3,22 +3,33 @@
 
 use reflected::reflected;
 use script::{command, given};
-use script_values::Bytes;
-use show::Shown;
+use script_values::{Bytes, room};
+use show::{Calls, Shown};
 use std::io;
 use std::io::Write;
 
 // Reads a reflected tree and writes its list into so many bytes.
 fn list<W: Write>(out: &mut W, line: &[u8]) -> io::Result<()> {
-    show::written(out, given(line, 0), false, |buffer| {
-        reflected(Bytes::of(line).as_slice(), buffer).map(Shown::Bytes)
-    })
+    let mut buffer = show::unwritten();
+    let written = reflected(
+        Bytes::of(line).as_slice(),
+        &mut buffer[..room(given(line, 0))],
+    );
+    show::written(out, written.map(Shown::Bytes), &buffer, false)
 }
 
 // Each program's own calls, by their letters: one `main` for all would be no plainer.
+struct Reflected;
+
+impl Calls for Reflected {
+    fn call<W: Write>(out: &mut W, line: &[u8]) -> io::Result<()> {
+        match command(line) {
+            Some(b'r') => list(out, line),
+            _ => Ok(()),
+        }
+    }
+}
+
 fn main(rt: HostRuntime) -> io::Result<()> {
-    show::run(&rt, |out, line| match command(line) {
-        Some(b'r') => list(out, line),
-        _ => Ok(()),
-    })
+    show::run::<Reflected>(&rt)
 }

@@ -2,8 +2,8 @@
 #![tactic(auto)]
 
 use script::{command, given};
-use script_values::{Bytes, Columns};
-use show::Shown;
+use script_values::{Bytes, Columns, room};
+use show::{Calls, Shown};
 use std::io;
 use std::io::Write;
 
@@ -24,25 +24,33 @@ fn refine<W: Write>(out: &mut W, line: &[u8]) -> io::Result<()> {
 // Carries out a log, with so many bytes for its text.
 fn grow<W: Write>(out: &mut W, line: &[u8]) -> io::Result<()> {
     let mut columns = Columns::of(line);
-    show::written(out, given(line, 0), true, |buffer| {
-        let grown = replay::grow(
-            Bytes::of(line).as_slice(),
-            columns.id.as_mut_slice(),
-            columns.l.as_mut_slice(),
-            columns.r.as_mut_slice(),
-            columns.q.as_mut_slice(),
-            buffer,
-        );
-        Ok(grown.map_or(Shown::NoRoom, Shown::Bytes))
-    })?;
+    let mut buffer = show::unwritten();
+    let grown = replay::grow(
+        Bytes::of(line).as_slice(),
+        columns.id.as_mut_slice(),
+        columns.l.as_mut_slice(),
+        columns.r.as_mut_slice(),
+        columns.q.as_mut_slice(),
+        &mut buffer[..room(given(line, 0))],
+    );
+    let found = grown.map_or(Shown::NoRoom, Shown::Bytes);
+    show::written(out, Ok(found), &buffer, true)?;
     show::columns(out, &columns)
 }
 
 // Each program's own calls, by their letters: one `main` for all would be no plainer.
+struct Requests;
+
+impl Calls for Requests {
+    fn call<W: Write>(out: &mut W, line: &[u8]) -> io::Result<()> {
+        match command(line) {
+            Some(b'r') => refine(out, line),
+            Some(b'g') => grow(out, line),
+            _ => Ok(()),
+        }
+    }
+}
+
 fn main(rt: HostRuntime) -> io::Result<()> {
-    show::run(&rt, |out, line| match command(line) {
-        Some(b'r') => refine(out, line),
-        Some(b'g') => grow(out, line),
-        _ => Ok(()),
-    })
+    show::run::<Requests>(&rt)
 }

@@ -2,23 +2,31 @@
 #![tactic(auto)]
 
 use script::{command, given};
-use script_values::narrow;
-use show::Shown;
+use script_values::{narrow, room};
+use show::{Calls, Shown};
 use small_requests::small_requests;
 use std::io;
 use std::io::Write;
 
 // Lists the small requests of a size in so many bytes.
 fn list<W: Write>(out: &mut W, line: &[u8]) -> io::Result<()> {
-    show::written(out, given(line, 1), false, |buffer| {
-        small_requests(narrow(given(line, 0)), buffer).map(Shown::Bytes)
-    })
+    let mut buffer = show::unwritten();
+    let written = small_requests(narrow(given(line, 0)), &mut buffer[..room(given(line, 1))]);
+    show::written(out, written.map(Shown::Bytes), &buffer, false)
 }
 
 // Each program's own calls, by their letters: one `main` for all would be no plainer.
+struct Small;
+
+impl Calls for Small {
+    fn call<W: Write>(out: &mut W, line: &[u8]) -> io::Result<()> {
+        match command(line) {
+            Some(b's') => list(out, line),
+            _ => Ok(()),
+        }
+    }
+}
+
 fn main(rt: HostRuntime) -> io::Result<()> {
-    show::run(&rt, |out, line| match command(line) {
-        Some(b's') => list(out, line),
-        _ => Ok(()),
-    })
+    show::run::<Small>(&rt)
 }

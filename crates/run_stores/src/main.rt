@@ -2,8 +2,8 @@
 #![tactic(auto)]
 
 use script::{command, given};
-use script_values::{Bytes, Columns};
-use show::Shown;
+use script_values::{Bytes, Columns, room};
+use show::{Calls, Shown};
 use std::io;
 use std::io::Write;
 
@@ -23,24 +23,31 @@ fn load<W: Write>(out: &mut W, line: &[u8]) -> io::Result<()> {
 // Stores columns in so many bytes.
 fn store<W: Write>(out: &mut W, line: &[u8]) -> io::Result<()> {
     let columns = Columns::of(line);
-    show::written(out, given(line, 1), false, |buffer| {
-        store::store(
-            columns.id.as_slice(),
-            columns.l.as_slice(),
-            columns.r.as_slice(),
-            columns.q.as_slice(),
-            given(line, 0) as usize,
-            buffer,
-        )
-        .map(Shown::Bytes)
-    })
+    let mut buffer = show::unwritten();
+    let stored = store::store(
+        columns.id.as_slice(),
+        columns.l.as_slice(),
+        columns.r.as_slice(),
+        columns.q.as_slice(),
+        given(line, 0) as usize,
+        &mut buffer[..room(given(line, 1))],
+    );
+    show::written(out, stored.map(Shown::Bytes), &buffer, false)
 }
 
 // Each program's own calls, by their letters: one `main` for all would be no plainer.
+struct Stores;
+
+impl Calls for Stores {
+    fn call<W: Write>(out: &mut W, line: &[u8]) -> io::Result<()> {
+        match command(line) {
+            Some(b's') => store(out, line),
+            Some(b'l') => load(out, line),
+            _ => Ok(()),
+        }
+    }
+}
+
 fn main(rt: HostRuntime) -> io::Result<()> {
-    show::run(&rt, |out, line| match command(line) {
-        Some(b's') => store(out, line),
-        Some(b'l') => load(out, line),
-        _ => Ok(()),
-    })
+    show::run::<Stores>(&rt)
 }

@@ -5,7 +5,7 @@ use order::Ordered;
 use rules::Refusal;
 use script::{command, given};
 use script_values::{Columns, narrow};
-use show::Shown;
+use show::{Calls, Shown};
 use std::io;
 use std::io::Write;
 
@@ -57,11 +57,19 @@ fn order(line: &[u8]) -> Result<Shown, Refusal> {
 }
 
 // Each program's own calls, by their letters: one `main` for all would be no plainer.
+struct Tables;
+
+impl Calls for Tables {
+    fn call<W: Write>(out: &mut W, line: &[u8]) -> io::Result<()> {
+        match command(line) {
+            Some(b'f') => fresh(out, line),
+            Some(b'c') => show::answer(out, check(line)),
+            Some(b'o') => show::answer(out, order(line)),
+            _ => Ok(()),
+        }
+    }
+}
+
 fn main(rt: HostRuntime) -> io::Result<()> {
-    show::run(&rt, |out, line| match command(line) {
-        Some(b'f') => fresh(out, line),
-        Some(b'c') => show::answer(out, check(line)),
-        Some(b'o') => show::answer(out, order(line)),
-        _ => Ok(()),
-    })
+    show::run::<Tables>(&rt)
 }

@@ -7,32 +7,28 @@ ghost use Rattle.show.specs.Shown.{used_of, between_of};
 ghost use Rattle.show.specs.declared.Shown.TheVariants.{Yes, Not};
 
 use rules::Refusal;
-use script_values::{Columns, room};
-use std::io::{BufWriter, Printer, Read, Write};
+use script_values::Columns;
+use std::io::{BufWriter, Read, Write};
 use std::{fmt, io};
 
 // How many bytes of input are read.
 const MOST_BYTES: u64 = 65536;
 
-// Where a test program's output goes, as it comes.
-pub type Out<'a> = BufWriter<Printer<'a, HostRuntime>>;
+// The calls that a test program makes: it prints what a line's call answers, and nothing where the line names none. A trait, since a function
+// that takes a closure has to ask that it may be called.
+pub trait Calls {
+    fn call<W: Write>(out: &mut W, line: &[u8]) -> io::Result<()>;
+}
 
 // Prints each line of a script that is read, with what its call prints. Text after the last line feed is no line.
-// The `requires`: no function that calls what it is given can be without, every closure without a `requires` meets it, and test programs
-// alone call this.
-pub fn run<'a, F: Fn(&mut Out<'a>, &[u8]) -> io::Result<()>>(
-    rt: &'a HostRuntime,
-    call: F,
-) -> io::Result<()>
-    requires { F.IsAlwaysCallable call }
-{
+pub fn run<C: Calls>(rt: &HostRuntime) -> io::Result<()> {
     let mut script = Vec::new(rt.alloc());
     rt.stdin().take(MOST_BYTES).read_to_end(&mut script)?;
     let mut out = BufWriter::new(rt.alloc(), io::writer(rt))?;
     for piece in script.split_inclusive(|c| *c == b'\n') {
         if let Some(line) = piece.strip_suffix(b"\n") {
             out.write_all(line)?;
-            call(&mut out, line)?;
+            C::call(&mut out, line)?;
             out.write_all(b"\n")?;
         }
     }
@@ -140,24 +136,19 @@ pub fn buffer<W: Write>(out: &mut W, s: &[u8], as_text: usize) -> io::Result<()>
     }
 }
 
-// What a call answers that writes into so many bytes of a buffer, and the buffer; what it wrote is text or stored bytes. The `requires` is
-// there as at `run`.
-pub fn written<W: Write, F: FnOnce(&mut [u8]) -> Result<Shown, Refusal>>(
+// What a call found that wrote into a buffer, and the buffer; what it wrote is text or stored bytes.
+pub fn written<W: Write>(
     out: &mut W,
-    most: u64,
+    found: Result<Shown, Refusal>,
+    bytes: &[u8],
     as_text: bool,
-    call: F,
-) -> io::Result<()>
-    requires { F.IsAlwaysCallable call }
-{
-    let mut bytes = unwritten();
-    let found = call(&mut bytes[..room(most)]);
+) -> io::Result<()> {
     answer(out, found)?;
     let text = match found {
         Ok(Shown::Bytes(n)) if as_text => n,
         _ => 0,
     };
-    buffer(out, &bytes, text)
+    buffer(out, bytes, text)
 }
 
 // A number stands between two that are equal to it, or one less and one more.

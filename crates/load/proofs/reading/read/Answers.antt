@@ -3,7 +3,6 @@ use Rattle.std.proofs.Common.{rules, length, arith, ap, sym, ◌∙◌}
 use Rattle.std.proofs.lemmas.Result.{err_from_is_err_and}
 use Rattle.rules.specs.Answers.{answer}
 use Rattle.table.specs.Columns.{columns}
-use Rattle.table.proofs.InUse.{cut_length}
 use Rattle.load.specs.Work.{work_columns}
 use Rattle.load.proofs.Checking.{work_checked, not_read, bad_lengths, no_count, bad_count, rows_on, count_fits, room_in, were_read}
 use Rattle.load.proofs.reading.read.Goals as goal
@@ -58,7 +57,8 @@ copy-requires c =
     let good = sym c.lengths_bad.ensures ∙ c.if-lengths_bad.false in
     let fits = sym c.count_bad.ensures ∙ c.if-count_bad.false in
     let n = count_fits d c.args.bytes.now good c.in_ok-first.ensures fits in
-    rw c.id.ensures (room_in c.in_ok-rows.rows d good n.1 c.in_ok-rows.ensures.cut).0
+    let k = c.in_ok-rows.ensures.cut in
+    rw k.id at (room_in c.in_ok-rows.rows d good n.1 k).0
 
 pub copy-requires-2 : goal.copy-requires-2
 copy-requires-2 c =
@@ -66,7 +66,8 @@ copy-requires-2 c =
     let good = sym c.lengths_bad.ensures ∙ c.if-lengths_bad.false in
     let fits = sym c.count_bad.ensures ∙ c.if-count_bad.false in
     let n = count_fits d c.args.bytes.now good c.in_ok-first.ensures fits in
-    rw c.l.ensures (room_in c.in_ok-rows.rows d good n.1 c.in_ok-rows.ensures.cut).1
+    let k = c.in_ok-rows.ensures.cut in
+    rw k.l at (room_in c.in_ok-rows.rows d good n.1 k).1
 
 pub copy-requires-3 : goal.copy-requires-3
 copy-requires-3 c =
@@ -74,8 +75,8 @@ copy-requires-3 c =
     let good = sym c.lengths_bad.ensures ∙ c.if-lengths_bad.false in
     let fits = sym c.count_bad.ensures ∙ c.if-count_bad.false in
     let n = count_fits d c.args.bytes.now good c.in_ok-first.ensures fits in
-    let e = ap length c.r.ensures in
-    omega (arith, (room_in c.in_ok-rows.rows d good n.1 c.in_ok-rows.ensures.cut).2)
+    let k = c.in_ok-rows.ensures.cut in
+    rw k.r at (room_in c.in_ok-rows.rows d good n.1 k).2
 
 pub copy-requires-4 : goal.copy-requires-4
 copy-requires-4 c =
@@ -83,7 +84,8 @@ copy-requires-4 c =
     let good = sym c.lengths_bad.ensures ∙ c.if-lengths_bad.false in
     let fits = sym c.count_bad.ensures ∙ c.if-count_bad.false in
     let n = count_fits d c.args.bytes.now good c.in_ok-first.ensures fits in
-    rw c.q.ensures (room_in c.in_ok-rows.rows d good n.1 c.in_ok-rows.ensures.cut).3
+    let k = c.in_ok-rows.ensures.cut in
+    rw k.q at (room_in c.in_ok-rows.rows d good n.1 k).3
 
 pub returns : goal.returns
 returns c =
@@ -94,7 +96,8 @@ returns c =
     let w = work_checked (work_columns c.rows_to_end.new.work) {count = c.in_ok-first.first.value} (search rules) (search rules) (search rules) (search rules) n.0 n.2 in
     let p = were_read c.in_ok-rows.rows d c.args.bytes.now
     (c.in_ok-rows.ensures.rows ∙ w ∙ c.in_ok-rows_to_end.ensures ∙ rows_on d c.args.bytes.now good c.in_ok-first.ensures fits) in
+    let k = c.in_ok-rows.ensures.cut in
     record {
-      result_value = ap answer (sym (cut_length c.in_ok-rows.ensures.cut)) ∙ p.0;
-      q_value = rw (c.copy.ensures, c.copy-2.ensures, c.copy-3.ensures, c.copy-4.ensures, c.id.ensures, c.l.ensures, c.r.ensures, c.q.ensures) p.1;
+      result_value = ap answer c.len.ensures ∙ p.0;
+      q_value = rw (c.copy.ensures, c.copy-2.ensures, c.copy-3.ensures, c.copy-4.ensures) (rw (k.id, k.l, k.r, k.q) at p.1);
     }
