@@ -6,7 +6,7 @@ ghost use Rattle.dates.specs.Inside.Found.{Writable};
 use calendar::Date;
 
 // How many bytes a date has.
-const DATE: usize = 10;
+pub(crate) const DATE: usize = 10;
 
 // A number below 100 in two digits.
 #[tactic(auto, unfolding(crate::specs::Dates::two))]

@@ -10,7 +10,7 @@ ghost use Rattle.rules.specs.Says.{says};
 ghost use Rattle.writer.specs.Writing.{Wrote};
 ghost use Rattle.dates.specs.Dates.{dated_text, date_answer, date_buffer};
 
-use digits::date_text;
+use digits::{DATE, date_text};
 use finding::date_of;
 use rules::Refusal;
 use writer::Writer;
@@ -25,6 +25,10 @@ pub fn write_date(writer: &mut Writer<'_>, day: u32) -> Result<usize, Refusal>
 {
     if LAST_DATED < day {
         return Err(Refusal::Undated);
+    }
+    // Asked before the date is worked out, so that a refusal takes no search.
+    if writer.too_short(DATE) {
+        return Err(Refusal::BufferShort);
     }
     writer.bytes(&date_text(date_of(day)))
 }

@@ -1,10 +1,11 @@
 -- Laws of reading, in the code's terms: a number that may not be 0, and an entry by its three draws.
 use Rattle.std.proofs.Common.{◌≡◌, ℕ, List, Bool, true, false, cond, eqb, refl, ap, sym, ◌∙◌}
 use Rattle.rules.specs.Answers.{Answer, answer, refused, then}
-use Rattle.rules.proofs.Answers.{then_same}
+use Rattle.rules.proofs.Answers.{same_answer, peel, then_answer, then_same}
 use Rattle.number.specs.declared.Number.{Number}
-use Rattle.number.specs.Number.{number_at}
+use Rattle.number.specs.Number.{found, number_at}
 use Rattle.reader.specs.Drawing.{drawn, moved, Draws}
+use Rattle.reader.proofs.Drawing.{first_drawn}
 use Rattle.request.specs.Reading.{positive_of, positive_at, entry_at}
 use Rattle.request.specs.declared.EntryRead.{EntryRead}
 use Rattle.entries.specs.Positive.{positive_value}
@@ -15,6 +16,13 @@ use Rattle.entries.specs.Positive.{positive_value}
 pub positive_at_lem : (bytes : List ℕ) (at : ℕ) {number : Answer Number} → number ≡ number_at bytes at → positive_of number ≡ positive_at bytes at
 unfolding positive_at
 positive_at_lem bytes at h = ap positive_of h
+
+-- it is the number that stands there
+pub positive_number : (bytes : List ℕ) (at : ℕ) {value next : ℕ} → found value next ≡ positive_at bytes at → found value next ≡ number_at bytes at
+unfolding positive_at
+positive_number bytes at h =
+    let a = then_answer (number_at bytes at) _ (sym h) in
+    sym (a.1 ∙ ap answer (same_answer (peel (eqb a.0.value 0) _ _ a.2).1))
 
 -- what comes after a number that may not be 0, by its value and the place after it
 pub after_positive : {B : Type 0} (a : Answer Number) (f : ℕ → ℕ → Answer B) → then (positive_of a) (λ n. f n.value n.next) ≡ then (positive_value (drawn a)) (λ v. f v (moved a))
@@ -58,9 +66,9 @@ three bytes at =
 module _ {bytes : List ℕ} {at : ℕ} {first second third : Answer ℕ} {next : ℕ} (d : Draws bytes at first second third next) where
   entry_drawn : entry_at bytes at ≡ of_three first second third next
   entry_drawn =
-      let qe = ap (λ x. moved (number_at bytes x)) d.p_is in
+      let f = first_drawn d in
       let t = three bytes at in
-      rw (d.next_is, d.third_is, d.q_is, d.second_is, d.p_is, d.first_is) t
+      rw (d.next_is, d.third_is, d.q_is, d.second_is, f.1, f.0) t
 
   pub no_id : {n : ℕ} → refused n ≡ positive_value first → refused n ≡ entry_at bytes at
   no_id h = rw (entry_drawn, sym h)

@@ -59,6 +59,12 @@ inner (suc (suc zero)) unit m e h = record { rest = 1; one_more = refl; counts =
 inner (suc (suc (suc zero))) unit m e h = record { rest = 2; one_more = refl; counts = omega arith; low = omega arith }
 inner (suc (suc (suc (suc k)))) unit m e h = absurd (omega arith)
 
+outer : (more unit : ℕ) → more ≤ 3 → unit ≡ unit_of more → 268435456 ≤ unit → more ≡ 0
+outer zero unit m e h = refl
+outer (suc zero) unit m e h = omega arith
+outer (suc (suc zero)) unit m e h = omega arith
+outer (suc (suc (suc k))) unit m e h = omega arith
+
 pub begins : {bytes : List ℕ} {at low : ℕ} → low < 128 → Later bytes at low at 128 low
 begins h = record { more = 3; most = omega arith; place = refl; counts = refl; small = h; whole = refl }
 
@@ -110,6 +116,20 @@ module _ {bytes : List ℕ} {at low i unit sum : ℕ} (l : Later bytes at low i 
         whole = sym (added_to_followed sum unit (get_or bytes i 0) (bit_groups_at inside.rest false bytes (i + 1)) b f)
             ∙ sym (ap (added_to sum unit) (more bytes i inside.rest false n b)) ∙ whole_inside;
       }
+
+-- what counts for no less than the fifth group does is the fifth
+module _ {bytes : List ℕ} {at low i unit sum : ℕ} (l : Later bytes at low i unit sum) (h : 268435456 ≤ unit) where
+  at_fifth : l.more ≡ 0
+  at_fifth = outer l.more unit l.most l.counts h
+
+  unit_fifth : unit ≡ 268435456
+  unit_fifth = l.counts ∙ ap unit_of at_fifth
+
+  pub fifth_small : sum < 268435456
+  fifth_small = omega (arith, l.small, unit_fifth)
+
+  pub fifth_whole : added_to sum 268435456 (bit_groups_at 0 false bytes i) ≡ added_to low 128 (bit_groups_at 3 false bytes at)
+  fifth_whole = rw (unit_fifth, at_fifth) at l.whole
 
 module _ (bytes : List ℕ) (at low : ℕ) where
   pub fifth_cut : length bytes ≤ at → refused 1 ≡ added_to low 268435456 (bit_groups_at 0 false bytes at)

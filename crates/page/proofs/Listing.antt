@@ -10,10 +10,26 @@ use Rattle.rules.proofs.Answers.{same_answer, then_answer, peel, never_refused}
 use Rattle.grant.specs.Grant.{Grant, GrantRead, grant_at, grants_by}
 use Rattle.grant.specs.Items.{items_of}
 use Rattle.grant.proofs.Items.{judged, judged_list, list_whole}
+use Rattle.grant.proofs.Listing.{GrantStands, grant_stands, GoesOn}
 use Rattle.matching.specs.Matching.{covers}
 use Rattle.board.specs.Board.{undated}
 use Rattle.page.specs.Page.{dated_grant_at, applying}
 use Rattle.page.specs.Inside.Reading.{lines_of}
+
+-- a grant that is read is a grant of the bytes, and is not undated
+pub dated_read : (bytes : List ℕ) (at : ℕ) {g : GrantRead} → dated_grant_at bytes at ≡ answer g → (grant_at bytes at ≡ answer g) × (undated g.grant ≡ false)
+unfolding dated_grant_at
+dated_read bytes at e =
+    let a = then_answer (grant_at bytes at) _ e in
+    let p = peel (undated _) 31 _ a.2 in
+    let g = same_answer p.1 in
+    (a.1 ∙ ap answer g, ap (λ (r : GrantRead). undated r.grant) (sym g) ∙ p.0)
+
+pub dated_stands : (bytes : List ℕ) (at : ℕ) {g : GrantRead} → dated_grant_at bytes at ≡ answer g → GrantStands bytes at g
+dated_stands bytes at e = grant_stands bytes at (dated_read bytes at e).0
+
+pub dated_goes_on : GoesOn dated_grant_at
+dated_goes_on bytes at g e = (dated_stands bytes at e).starts
 
 -- a grant of a page's list, once it is read
 abbrev pub in_time : Grant → Answer Grant

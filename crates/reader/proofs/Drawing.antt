@@ -24,8 +24,9 @@ draws {bytes} {b₁ = b₁} {b₂ = b₂} {at = at} {p = p} {q = q} x y f i u s 
     }
 
 module _ {bytes : List ℕ} {at : ℕ} {first second third : Answer ℕ} {next : ℕ} (d : Draws bytes at first second third next) where
-  pub first_drawn : first ≡ drawn (number_at bytes at)
-  first_drawn = d.first_is
+  -- the first is the number at the place, and what comes after it begins where that number ends
+  pub first_drawn : (first ≡ drawn (number_at bytes at)) × (d.p ≡ moved (number_at bytes at))
+  first_drawn = (d.first_is, d.p_is)
 
   -- where the first number stands, the second is drawn after it
   pub second_drawn : {v p : ℕ} → found v p ≡ number_at bytes at → (second ≡ drawn (number_at bytes p)) × (d.q ≡ moved (number_at bytes p))

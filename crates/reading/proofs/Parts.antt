@@ -12,6 +12,7 @@ use Rattle.request.specs.Reading.{positive_of, positive_at, TreesRead, trees_at,
 use Rattle.request.specs.Request.{Request}
 use Rattle.entries.specs.Positive.{positive_value}
 use Rattle.reader.specs.Drawing.{Draws}
+use Rattle.reader.proofs.Drawing.{first_drawn}
 use Rattle.entries.proofs.Parts.{after_positive, after_number}
 use Rattle.reading.specs.declared.WalkEnd.{WalkEnd}
 use Rattle.reading.specs.declared.columns.Work.{Work}
@@ -62,9 +63,9 @@ module _ {bytes : List ℕ} {first second third : Answer ℕ} {next : ℕ} (h : 
       after_positive a (λ x p. then (number_at bytes p) (λ direction. cond (ltb 1 direction.value) (refused 3)
       (then (positive_of (number_at bytes direction.next)) (λ n. of_trees bytes x direction.value n.value n.next))))
       ∙ ap (λ p. then (positive_value (drawn a)) (λ x. then (number_at bytes p) (λ direction. cond (ltb 1 direction.value) (refused 3)
-      (then (positive_of (number_at bytes direction.next)) (λ n. of_trees bytes x direction.value n.value n.next))))) (sym h.p_is)
+      (then (positive_of (number_at bytes direction.next)) (λ n. of_trees bytes x direction.value n.value n.next))))) (sym (first_drawn h).1)
       ∙ ap (λ v. then (positive_value v) (λ x. then b (λ direction. cond (ltb 1 direction.value) (refused 3)
-      (then (positive_of (number_at bytes direction.next)) (λ n. of_trees bytes x direction.value n.value n.next))))) (sym h.first_is)
+      (then (positive_of (number_at bytes direction.next)) (λ n. of_trees bytes x direction.value n.value n.next))))) (sym (first_drawn h).0)
       ∙ then_same (positive_value first) _ _ (λ x _.
       after_number b (λ d q. cond (ltb 1 d) (refused 3) (then (positive_of (number_at bytes q)) (λ n. of_trees bytes x d n.value n.next)))
       ∙ ap (λ q. then (drawn b) (λ d. cond (ltb 1 d) (refused 3) (then (positive_of (number_at bytes q)) (λ n. of_trees bytes x d n.value n.next)))) (sym h.q_is)

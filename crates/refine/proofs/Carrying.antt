@@ -24,7 +24,7 @@ use Rattle.request.proofs.ReadLaws.{request_read, request_legal}
 use Rattle.request.specs.Forest.{Forest, none, tree, pre_l}
 use Rattle.request.specs.Legal.{LegalNumber, LegalTrees}
 use Rattle.table.specs.declared.Row.{Row}
-use Rattle.table.specs.Columns.{Columns, row_at, rows, counted, afterwards}
+use Rattle.table.specs.Columns.{Columns, columns, row_at, rows, counted, afterwards}
 use Rattle.table.specs.Check.{checked}
 use Rattle.table.specs.Places.{place_of}
 use Rattle.judging.specs.Judging.{judged_in}
@@ -69,6 +69,10 @@ given bytes e =
 pub unread : (c : Columns) (n : ℕ) (bytes : List ℕ) {k : ℕ} → checked c n ≡ answer (rows c n) → refused k ≡ summary (request_of bytes) → refined c n bytes ≡ refused k
 unfolding refined
 unread c n bytes good e = rw (good, then_refused (request_of bytes) _ (sym e))
+
+-- columns are the same where each of the four is
+pub columns_are : {id id' l l' r r' q q' : List ℕ} → id ≡ id' → l ≡ l' → r ≡ r' → q ≡ q' → columns id l r q ≡ columns id' l' r' q'
+columns_are a b c d = rw (a, b, c, d)
 
 -- a work column keeps its length
 pub filled : (s vs : List ℕ) {s' : List ℕ} → s' ≡ sets s 0 vs → length s ≡ entry_capacity → length s' ≡ entry_capacity

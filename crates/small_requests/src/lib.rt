@@ -35,7 +35,7 @@ struct Rest {
 
 // Writes every request that begins with the first `done` bytes of the row and goes on with the rest. The next entry's child count is chosen
 // here, the others' below.
-fn write_shapes(writer: &mut Writer<'_>, row: &mut [u8], done: usize, rest: Rest)
+fn write_shapes(writer: &mut Writer<'_>, row: &mut [u8; ROW], done: usize, rest: Rest)
     requires row_len { (length row.old ≡ row_length) × (done + 3 * rest.entries ≤ row_length) × (rest.id + rest.entries ≤ 1 + greatest_size) × (rest.trees ≤ rest.entries) }
     requires due_in_bounds { HasRoom writer.old (length (shapes_bytes (take done row.old) rest.id rest.entries rest.trees)) }
     ensures wrote { WroteAll writer.old writer.new (shapes_bytes (take done row.old) rest.id rest.entries rest.trees) }
@@ -43,8 +43,10 @@ fn write_shapes(writer: &mut Writer<'_>, row: &mut [u8], done: usize, rest: Rest
 {
     let Rest { id, trees, entries } = rest;
     if entries == 0 {
+        // From a row of its own: of its place a compiler knows that it is none of the buffer's, and asks for no `memmove`.
+        let whole = *row;
         // Not refused: there is room.
-        let _ = writer.bytes(&row[..done]);
+        let _ = writer.bytes(&whole[..done]);
         return;
     }
     if trees == 0 {
@@ -64,7 +66,7 @@ fn write_shapes(writer: &mut Writer<'_>, row: &mut [u8], done: usize, rest: Rest
 }
 
 // Writes the requests of one direction: the smaller tree count first.
-fn write_direction(writer: &mut Writer<'_>, row: &mut [u8], direction: u8, size: u8)
+fn write_direction(writer: &mut Writer<'_>, row: &mut [u8; ROW], direction: u8, size: u8)
     requires row_len { (length row.old ≡ row_length) × (size ≤ greatest_size) }
     requires size_in_bounds { HasRoom writer.old (length (direction_bytes direction size)) }
     ensures { WroteAll writer.old writer.new (direction_bytes direction size) }

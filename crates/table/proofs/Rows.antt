@@ -9,6 +9,10 @@ use Rattle.table.specs.Columns.{Columns, columns, row_at, rows_from, rows, put}
 use Rattle.table.specs.declared.Row.{Row}
 use Rattle.table.specs.Inside.Held.{Holds}
 
+-- columns that hold some rows hold fewer
+pub holds_less : {c : Columns} {m n : ℕ} → Holds c n → m ≤ n → Holds c m
+holds_less h k = record { in_id = omega (arith, h.in_id); in_l = omega (arith, h.in_l); in_r = omega (arith, h.in_r); in_q = omega (arith, h.in_q) }
+
 -- some rows are the first of them and the others
 pub rows_split : (c : Columns) (i m n : ℕ) → rows_from c i (m + n) ≡ rows_from c i m ++ rows_from c (i + m) n
 unfolding rows_from

@@ -2,7 +2,8 @@
 use mathlib.Core.Path.{◌≡◌, refl, ap, sym, ◌∙◌}
 use mathlib.Core.Bool.{Bool, true, false, ◌||◌, true≢false, or_assoc, or-false, or-true}
 use mathlib.Core.List.{List, [], ◌∷◌, ◌++◌}
-use Prim.Native.Nat.{ℕ, ◌+◌, ◌-◌, ◌<◌}
+use Prim.Native.Nat.{ℕ, ◌+◌, ◌-◌, ◌<◌, ◌≤◌}
+use native.Mathlib.Omega.{arith}
 use Rattle.std.specs.List.{list_any}
 use Rattle.table.specs.Columns.{Columns, row_at, rows_from, rows}
 use Rattle.table.specs.declared.Row.{Row}
@@ -55,6 +56,10 @@ module _ (c : Columns) (i : ℕ) where
   -- none of the first i rows, nor row i
   pub none_more : (p : Row → Bool) → some_row p (rows c i) ≡ false → p (row_at c i) ≡ false → some_row p (rows c (i + 1)) ≡ false
   none_more p h k = ap (some_row p) (rows_more c i) ∙ some_append p (rows c i) (row_at c i ∷ []) ∙ rw (h, some_one p (row_at c i), k)
+
+  -- at the end of the rows
+  pub none_all : (n : ℕ) (p : Row → Bool) → i ≤ n → n ≤ i → some_row p (rows c i) ≡ false → false ≡ some_row p (rows c n)
+  none_all n p h k e = let f : i ≡ n = omega arith in sym (rw f at e)
 
   pub no_pair_more : (p : Row → Row → Bool) → some_pair p (rows c i) ≡ false → some_row (λ v. p v (row_at c i)) (rows c i) ≡ false
       → some_pair p (rows c (i + 1)) ≡ false

@@ -1,7 +1,8 @@
-use mathlib.Core.Path.{refl, ◌∙◌}
+use mathlib.Core.Path.{◌≡◌, refl, sym, ◌∙◌}
 use Prim.Native.Nat.{◌≤◌, ◌+◌}
 use native.Mathlib.Omega.{arith}
-use lib.ListN.{take, length-set}
+use lib.ListN.{take, length, length-set}
+use borrow.Author.Rules.{rules}
 use Rattle.small_requests.specs.Inside.Rows.{row_length}
 use Rattle.small_requests.proofs.Choosing.{below_fits, choose_begins, choose_room, choose_again, choose_ends, whole_written, shapes_over}
 use Rattle.writer.proofs.Writing.{wrote_room}
@@ -50,8 +51,9 @@ loop-k-preserved t c =
     let n : a.done + 3 ≤ row_length = omega arith in
     let h : l.k + a.rest.trees ≤ a.rest.entries = omega arith in
     let e = c.write_shapes.ensures in
+    let s : length c.write_shapes.new.row ≡ row_length = search rules in
     record {
-      choosing = choose_again l.invariant.choosing h n e.wrote.place e.wrote.buffer e.row_value c.write_shapes.auto.row;
+      choosing = choose_again l.invariant.choosing h n e.wrote.place e.wrote.buffer e.row_value (s ∙ sym (length-set l.row (a.done + 2) l.k ∙ l.invariant.choosing.long));
       same_reference = e.wrote.same_reference ∙ l.invariant.same_reference;
     }
 
@@ -67,6 +69,7 @@ returns-else-trees-eq0-2 t c =
     let n : a.done + 3 ≤ row_length = omega arith in
     let h : l.k + a.rest.trees ≤ a.rest.entries = omega arith in
     let w = c.write_shapes.ensures in
-    let d = choose_again l.invariant.choosing h n w.wrote.place w.wrote.buffer w.row_value c.write_shapes.auto.row in
+    let s : length c.write_shapes.new.row ≡ row_length = search rules in
+    let d = choose_again l.invariant.choosing h n w.wrote.place w.wrote.buffer w.row_value (s ∙ sym (length-set l.row (a.done + 2) l.k ∙ l.invariant.choosing.long)) in
     let e = choose_ends a.row.now d (omega arith) (omega arith) (omega arith) r.3 in
     record { wrote = wrote_room c.requires.due_in_bounds e.1 e.0 (w.wrote.same_reference ∙ l.invariant.same_reference); row_value = e.2 }

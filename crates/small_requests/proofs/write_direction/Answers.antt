@@ -1,7 +1,9 @@
-use mathlib.Core.Path.{refl, ◌∙◌}
+use mathlib.Core.Path.{◌≡◌, refl, sym, ◌∙◌}
 use Prim.Native.Nat.{◌+◌, ◌*◌}
 use native.Mathlib.Omega.{arith}
-use lib.ListN.{set}
+use lib.ListN.{set, length, length-set}
+use borrow.Author.Rules.{rules}
+use Rattle.small_requests.specs.Inside.Rows.{row_length}
 use Rattle.small_requests.proofs.Directions.{fronted, front_long, direct_begins, direct_room, direct_again, direct_ends}
 use Rattle.writer.proofs.Writing.{wrote_room}
 use Rattle.small_requests.proofs.write_direction.Goals as goal
@@ -23,8 +25,10 @@ write_shapes-requires-clause-due_in_bounds c = direct_room c.loop-trees.invarian
 pub loop-trees-preserved : goal.loop-trees-preserved
 loop-trees-preserved c =
     let e = c.write_shapes.ensures in
+    let i = c.loop-trees.invariant.directing in
+    let s : length c.write_shapes.new.row ≡ row_length = search rules in
     record {
-      directing = direct_again c.loop-trees.invariant.directing (omega arith) (omega arith) (omega arith) e.wrote.place e.wrote.buffer e.row_value c.write_shapes.auto.row;
+      directing = direct_again c.loop-trees.invariant.directing (omega arith) (omega arith) (omega arith) e.wrote.place e.wrote.buffer e.row_value (s ∙ sym (length-set c.loop-trees.row 3 c.loop-trees.trees ∙ i.long));
       same_reference = e.wrote.same_reference ∙ c.loop-trees.invariant.same_reference;
     }
 
@@ -40,6 +44,7 @@ pub returns-2 : goal.returns-2
 returns-2 c =
     let w = c.write_shapes.ensures in
     let i = c.loop-trees.invariant in
-    let d = direct_again i.directing (omega arith) (omega arith) {again = c.args.size} (omega arith) w.wrote.place w.wrote.buffer w.row_value c.write_shapes.auto.row in
+    let s : length c.write_shapes.new.row ≡ row_length = search rules in
+    let d = direct_again i.directing (omega arith) (omega arith) {again = c.args.size} (omega arith) w.wrote.place w.wrote.buffer w.row_value (s ∙ sym (length-set c.loop-trees.row 3 c.loop-trees.trees ∙ i.directing.long)) in
     let e = direct_ends d (omega arith) in
     wrote_room c.requires.size_in_bounds e.1 e.0 (w.wrote.same_reference ∙ i.same_reference)
