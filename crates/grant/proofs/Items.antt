@@ -1,17 +1,19 @@
 -- The laws of a list's items: the next one, and that together they are the list.
 use mathlib.Core.Path.{◌≡◌, refl, ap, sym, ◌∙◌}
 use mathlib.Core.Bool.{Bool, true, false, cond}
-use mathlib.Core.List.{List, [], ◌∷◌}
+use mathlib.Core.List.{List, [], ◌∷◌, ◌++◌, append_assoc}
 use Prim.Native.Nat.{ℕ, zero, suc, ◌+◌, ◌-◌, ◌<◌, ◌≤◌}
 use native.Mathlib.Omega.{arith}
 use lib.Dec.{leb}
 use lib.ListN.{length}
 use borrow.Author.Tests.{le-leb, lt-leb}
 use Rattle.rules.specs.Answers.{Answer, answer, refused, then}
+use Rattle.rules.proofs.Answers.{same_answer, then_answer}
 use Rattle.rules.proofs.Cases.{by_lt}
-use Rattle.grant.specs.Grant.{Grant, GrantRead, GrantReader, grant_at, grants_from, grants_by}
+use Rattle.grant.specs.Grant.{Grant, GrantRead, GrantReader, grant_at, grants_by}
 use Rattle.grant.specs.Items.{item_then, items_from, items_of}
-use Rattle.grant.proofs.Listing.{grant_goes_on}
+use Rattle.grant.proofs.Listing.{GoesOn, grant_goes_on}
+use Rattle.grant.proofs.Folding.{outcome, outcome_ends, outcome_refused, outcome_next, outcome_whole}
 
 -- ## The next item
 
@@ -87,30 +89,56 @@ abbrev pub judged : (Grant → Answer Grant) → Answer GrantRead → Answer Gra
 judged judge a = then a λ r. then (judge r.grant) λ x. answer (record { grant = x; next = r.next })
 
 module _ (reader : GrantReader) (judge : Grant → Answer Grant) (by : (bytes : List ℕ) (at : ℕ) → reader bytes at ≡ judged judge (grant_at bytes at)) where
-  abbrev Rest : ℕ → List ℕ → Type 0
-  Rest n bytes = (next : ℕ) → judged_list judge (items_from n bytes next) ≡ grants_from reader n bytes next
+  by_goes_on : GoesOn reader
+  by_goes_on bytes at g e =
+      let a = then_answer (grant_at bytes at) _ (sym (by bytes at) ∙ e) in
+      let b = then_answer (judge a.0.grant) _ a.2 in
+      let n : a.0.next ≡ g.next = ap (λ (r : GrantRead). r.next) (same_answer b.2) in
+      omega (arith, grant_goes_on bytes at a.0 a.1, n)
 
-  list_from : (n : ℕ) (bytes : List ℕ) (at : ℕ) → judged_list judge (items_from n bytes at) ≡ grants_from reader n bytes at
-  unfolding judged_list items_from grants_from
-  list_from zero bytes at = refl
-  list_from (suc n) bytes at = rw (by bytes at) (go (leb (length bytes) at) (grant_at bytes at) (list_from n bytes))
+  -- after those that are kept so far
+  abbrev kept : List Grant → Answer (List Grant) → Answer (List Grant)
+  kept s list = then list λ gs. answer (s ++ gs)
+
+  one_more : (s : List Grant) (x : Grant) (list : Answer (List Grant)) → kept s (then list λ gs. answer (x ∷ gs)) ≡ kept (s ++ (x ∷ [])) list
+  one_more s x (answer gs) = ap answer (sym (append_assoc s (x ∷ []) gs))
+  one_more s x (refused n) = refl
+
+  -- what a list gives from a position on, after what is kept so far, its items give, judged one after another
+  list_kept : (n : ℕ) (bytes : List ℕ) (at : ℕ) (s : List Grant) → length bytes ≤ at + n
+      → kept s (judged_list judge (items_from n bytes at)) ≡ outcome reader (λ s gs. s ++ gs) bytes at s
+  unfolding judged_list
+  list_kept zero bytes at s h = ap (λ left. kept s (judged_list judge left)) (items_end 0 bytes at (omega arith)) ∙ sym (outcome_ends reader _ bytes at s (omega arith))
+  list_kept (suc n) bytes at s h =
+      by_lt at (length bytes)
+      (λ l. ap (λ left. kept s (judged_list judge left)) (items_more n bytes at l) ∙ go l (grant_at bytes at) refl (list_kept n bytes))
+      (λ l. ap (λ left. kept s (judged_list judge left)) (items_end (suc n) bytes at l) ∙ sym (outcome_ends reader _ bytes at s l))
     where
-      answered : Rest n bytes → (g : Answer Grant) (next : ℕ)
-          → then g (λ x. then (judged_list judge (items_from n bytes next)) λ gs. answer (x ∷ gs))
-          ≡ then (then g λ x. answer (record { grant = x; next = next })) (λ (r : GrantRead). then (grants_from reader n bytes r.next) λ gs. answer (r.grant ∷ gs))
-      answered rest (answer x) next = rw (rest next)
-      answered rest (refused k) next = refl
+      -- the same of what comes further on
+      Rest : Type 0
+      Rest = (next : ℕ) (s : List Grant) → length bytes ≤ next + n → kept s (judged_list judge (items_from n bytes next)) ≡ outcome reader (λ s gs. s ++ gs) bytes next s
 
-      go : (b : Bool) (a : Answer GrantRead) → Rest n bytes
-          → judged_list judge (cond b [] (item_then a (items_from n bytes)))
-          ≡ cond b (answer []) (then (judged judge a) λ (r : GrantRead). then (grants_from reader n bytes r.next) λ gs. answer (r.grant ∷ gs))
-      go true a rest = refl
-      go false (refused k) rest = refl
-      go false (answer r) rest = answered rest (judge r.grant) r.next
+      given : at < length bytes → (r : GrantRead) → grant_at bytes at ≡ answer r → (x : Answer Grant) → judge r.grant ≡ x → Rest
+          → kept s (then x λ y. then (judged_list judge (items_from n bytes r.next)) λ gs. answer (y ∷ gs)) ≡ outcome reader (λ s gs. s ++ gs) bytes at s
+      given l r e (refused k) f rest = sym (outcome_refused reader _ bytes by_goes_on at s l (by bytes at ∙ rw (e, f)))
+      given l r e (answer x) f rest =
+          let m = grant_goes_on bytes at r e in
+          one_more s x (judged_list judge (items_from n bytes r.next))
+          ∙ rest r.next (s ++ (x ∷ [])) (omega (arith, m))
+          ∙ sym (outcome_next reader _ bytes by_goes_on at s (s ++ (x ∷ [])) {g = record { grant = x; next = r.next }} l (by bytes at ∙ rw (e, f)) (λ gs. sym (append_assoc s (x ∷ []) gs)))
+
+      go : at < length bytes → (a : Answer GrantRead) → grant_at bytes at ≡ a → Rest
+          → kept s (judged_list judge (item_then a (items_from n bytes))) ≡ outcome reader (λ s gs. s ++ gs) bytes at s
+      go l (refused k) e rest = sym (outcome_refused reader _ bytes by_goes_on at s l (by bytes at ∙ rw e))
+      go l (answer r) e rest = given l r e (judge r.grant) refl rest
 
   pub list_whole : (bytes : List ℕ) → judged_list judge (items_of bytes) ≡ grants_by reader bytes
-  unfolding grants_by
-  list_whole bytes = list_from (length bytes) bytes 0
+  list_whole bytes =
+      sym (none_kept (judged_list judge (items_of bytes))) ∙ list_kept (length bytes) bytes 0 [] (omega arith) ∙ outcome_whole reader _ bytes [] ∙ none_kept (grants_by reader bytes)
+    where
+      none_kept : (list : Answer (List Grant)) → kept [] list ≡ list
+      none_kept (answer gs) = refl
+      none_kept (refused n) = refl
 
 -- a list that is read and no more
 pub list_read : (bytes : List ℕ) → judged_list answer (items_of bytes) ≡ grants_by grant_at bytes
