@@ -18,6 +18,7 @@ use Rattle.table.specs.Check.{lengths_bad, count_bad, sound_rows, checked}
 use Rattle.table.proofs.Lengths.{lengths_good, count_good, good_count}
 use Rattle.table.proofs.Rows.{rows_length}
 use Rattle.table.proofs.InUse.{put_in_use, cut_length}
+use Rattle.table.proofs.Passing.{good_rows}
 use Rattle.stored.specs.Stored.{rows_to_end, read_rows}
 
 -- work columns pass 10
@@ -26,19 +27,16 @@ pub work_checked : (c : Columns) {count : ℕ} → length c.id ≡ row_capacity 
 unfolding checked lengths_bad
 work_checked c {count} hi hl hr hq some most = rw (hi, hl, hr, hq, good_count row_capacity count some most)
 
--- and what the check finds of them is what their rows come to
+-- and what the check finds of them, its verdict alone, is what their rows come to
 pub rows_checked_lem : (c : Columns) {count : ℕ} → length c.id ≡ row_capacity → length c.l ≡ row_capacity → length c.r ≡ row_capacity → length c.q ≡ row_capacity
     → 1 ≤ count → count ≤ row_capacity → (v : Answer (Unit {0})) → v ≡ given (checked c count) → rows_checked v c count ≡ sound_rows (rows c count)
 rows_checked_lem c {count} hi hl hr hq some most v e =
     let w = work_checked c hi hl hr hq some most in
-    ap (λ a. rows_checked a c count) (e ∙ ap given w) ∙ passed (rows c count)
+    ap (λ a. rows_checked a c count) (e ∙ ap given w) ∙ go (sound_rows (rows c count)) refl
   where
-    passed : (t : List Row) → then (given (sound_rows t)) (λ _. sound_rows t) ≡ sound_rows t
-    passed t = go (sound_rows t)
-      where
-        go : (a : Answer (List Row)) → then (given a) (λ _. a) ≡ a
-        go (answer t) = refl
-        go (refused n) = refl
+    go : (a : Answer (List Row)) → sound_rows (rows c count) ≡ a → then (given a) (λ _. answer (rows c count)) ≡ a
+    go (answer t) h = ap answer (good_rows (rows c count) h).1
+    go (refused n) h = refl
 
 -- ## Each step of a read
 

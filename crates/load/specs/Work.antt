@@ -19,6 +19,10 @@ set_row c i w = columns (set c.id i w.id) (set c.l i w.l) (set c.r i w.r) (set c
 abbrev pub rows_said : Answer ℕ → Columns → ℕ → Answer Rows
 rows_said found c count = then found λ next. answer (record { rows = rows c count; next = next })
 
--- the rows that were read, and pass the check
+-- the rows that were read, and are still to pass the check
+abbrev pub rows_unchecked : Answer (Unit {0}) → Columns → ℕ → Answer (List Row)
+rows_unchecked found c count = then found λ _. sound_rows (rows c count)
+
+-- the rows that were read and have passed the check
 abbrev pub rows_checked : Answer (Unit {0}) → Columns → ℕ → Answer (List Row)
-rows_checked found c count = then found λ _. sound_rows (rows c count)
+rows_checked verdict c count = then verdict λ _. answer (rows c count)

@@ -4,7 +4,7 @@ ghost use Rattle.rules.specs.Says.{says};
 ghost use Rattle.rules.specs.Capacities.{row_capacity};
 ghost use Rattle.table.specs.Columns.{columns, overlay, counted, afterwards};
 ghost use Rattle.stored.specs.Stored.{row_read, rows_at, rows_to_end, read_rows};
-ghost use Rattle.load.specs.Work.{work_columns, rows_said, rows_checked};
+ghost use Rattle.load.specs.Work.{work_columns, rows_said, rows_unchecked};
 
 use crate::work::Work;
 use number::number_at;
@@ -51,7 +51,7 @@ fn rows_at(bytes: &[u8], at: usize, count: usize, work: &mut Work) -> Result<usi
 #[tactic(auto, unfolding(stored::specs::Stored::rows_to_end))]
 fn rows_to_end(bytes: &[u8], at: usize, count: usize, work: &mut Work) -> Result<(), Refusal>
     requires { count ≤ row_capacity }
-    ensures { rows_checked (says result) (work_columns work.new) count ≡ rows_to_end count bytes.now at }
+    ensures { rows_unchecked (says result) (work_columns work.new) count ≡ rows_to_end count bytes.now at }
 {
     let end = rows_at(bytes, at, count, work)?;
     if end < bytes.len() {

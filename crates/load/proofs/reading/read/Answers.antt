@@ -1,10 +1,11 @@
 -- `load::reading::read` meets its contract: each step's refusal is the read's, and the rows that pass the check are copied.
 use Rattle.std.proofs.Common.{rules, length, arith, ap, sym, ◌∙◌}
 use Rattle.std.proofs.lemmas.Result.{err_from_is_err_and}
-use Rattle.rules.specs.Answers.{answer}
+use Rattle.rules.specs.Answers.{answer, given}
 use Rattle.table.specs.Columns.{columns}
 use Rattle.load.specs.Work.{work_columns}
-use Rattle.load.proofs.Checking.{work_checked, not_read, bad_lengths, no_count, bad_count, rows_on, count_fits, room_in, were_read}
+use Rattle.table.proofs.Passing.{check_passed}
+use Rattle.load.proofs.Checking.{rows_checked_lem, not_read, bad_lengths, no_count, bad_count, rows_on, count_fits, room_in, were_read}
 use Rattle.load.proofs.reading.read.Goals as goal
 
 pub returns-then-lengths_bad : goal.returns-then-lengths_bad
@@ -46,8 +47,8 @@ returns-in_err-rows c =
     let good = sym c.lengths_bad.ensures ∙ c.if-lengths_bad.false in
     let fits = sym c.count_bad.ensures ∙ c.if-count_bad.false in
     let n = count_fits d c.args.bytes.now good c.in_ok-first.ensures fits in
-    let w = work_checked (work_columns c.rows_to_end.new.work) {count = c.in_ok-first.first.value} (search rules) (search rules) (search rules) (search rules) n.0 n.2 in
-    let p = not_read d c.args.bytes.now (c.in_err-rows.ensures.rows ∙ w ∙ c.in_ok-rows_to_end.ensures ∙ rows_on d c.args.bytes.now good c.in_ok-first.ensures fits) in
+    let w = rows_checked_lem (work_columns c.rows_to_end.new.work) {count = c.in_ok-first.first.value} (search rules) (search rules) (search rules) (search rules) n.0 n.2 _ (ap given c.in_err-rows.ensures.rows) in
+    let p = not_read d c.args.bytes.now (w ∙ c.in_ok-rows_to_end.ensures ∙ rows_on d c.args.bytes.now good c.in_ok-first.ensures fits) in
     let r = err_from_is_err_and c.from_residual-in_err-rows.result c.from_residual-in_err-rows.ensures.1 in
     record { result_value = rw (r.1, r.2) p.0; q_value = p.1 }
 
@@ -93,9 +94,9 @@ returns c =
     let good = sym c.lengths_bad.ensures ∙ c.if-lengths_bad.false in
     let fits = sym c.count_bad.ensures ∙ c.if-count_bad.false in
     let n = count_fits d c.args.bytes.now good c.in_ok-first.ensures fits in
-    let w = work_checked (work_columns c.rows_to_end.new.work) {count = c.in_ok-first.first.value} (search rules) (search rules) (search rules) (search rules) n.0 n.2 in
+    let w = rows_checked_lem (work_columns c.rows_to_end.new.work) {count = c.in_ok-first.first.value} (search rules) (search rules) (search rules) (search rules) n.0 n.2 _ (ap given c.in_ok-rows.ensures.rows) in
     let p = were_read c.in_ok-rows.rows d c.args.bytes.now
-    (c.in_ok-rows.ensures.rows ∙ w ∙ c.in_ok-rows_to_end.ensures ∙ rows_on d c.args.bytes.now good c.in_ok-first.ensures fits) in
+    (ap answer (sym (check_passed _ _ (sym c.in_ok-rows.ensures.rows)).1) ∙ w ∙ c.in_ok-rows_to_end.ensures ∙ rows_on d c.args.bytes.now good c.in_ok-first.ensures fits) in
     let k = c.in_ok-rows.ensures.cut in
     record {
       result_value = ap answer c.len.ensures ∙ p.0;
