@@ -12,7 +12,8 @@ use writer::Writer;
 pub type Bytes = Filled<u8, 65536>;
 
 impl Filled<u8, 65536> {
-    // The bytes that a line gives.
+    // The bytes that a line gives. Inline, so that they are given in their place and not copied.
+    #[inline(always)]
     #[tactic(auto, using(crate::proofs::Laws::filled_lem))]
     pub fn of(line: &[u8]) -> Bytes
         ensures { result ≡ filled_of line.now }
