@@ -7,7 +7,7 @@ use script::{command, given};
 use script_values::{Bytes, narrow, room};
 use show::{Calls, Shown};
 use std::io;
-use std::io::Write;
+use std::io::{BufWriter, Read, Write};
 use writer::Writer;
 
 fn shown(decided: Decided) -> Shown {
@@ -56,5 +56,9 @@ impl Calls for Decisions {
 }
 
 fn main(rt: HostRuntime) -> io::Result<()> {
-    show::run::<Decisions>(&rt)
+    let mut script = Vec::new(rt.alloc());
+    rt.stdin().take(show::MOST_BYTES).read_to_end(&mut script)?;
+    let mut out = BufWriter::new(rt.alloc(), io::writer(&rt))?;
+    show::run::<Decisions, _>(&mut out, &script)?;
+    out.flush()
 }

@@ -7,7 +7,7 @@ use script::{command, given};
 use script_values::{Bytes, narrow, room};
 use show::{Calls, Shown};
 use std::io;
-use std::io::Write;
+use std::io::{BufWriter, Read, Write};
 use writer::Writer;
 
 // The number at a position of some bytes: its value, and the position after it.
@@ -98,5 +98,9 @@ impl Calls for Numbers {
 }
 
 fn main(rt: HostRuntime) -> io::Result<()> {
-    show::run::<Numbers>(&rt)
+    let mut script = Vec::new(rt.alloc());
+    rt.stdin().take(show::MOST_BYTES).read_to_end(&mut script)?;
+    let mut out = BufWriter::new(rt.alloc(), io::writer(&rt))?;
+    show::run::<Numbers, _>(&mut out, &script)?;
+    out.flush()
 }

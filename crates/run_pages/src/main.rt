@@ -6,7 +6,7 @@ use script::{command, given};
 use script_values::{Bytes, narrow, room};
 use show::{Calls, Shown};
 use std::io;
-use std::io::Write;
+use std::io::{BufWriter, Read, Write};
 use writer::Writer;
 
 // Writes the date of a day into so many bytes.
@@ -44,5 +44,9 @@ impl Calls for Pages {
 }
 
 fn main(rt: HostRuntime) -> io::Result<()> {
-    show::run::<Pages>(&rt)
+    let mut script = Vec::new(rt.alloc());
+    rt.stdin().take(show::MOST_BYTES).read_to_end(&mut script)?;
+    let mut out = BufWriter::new(rt.alloc(), io::writer(&rt))?;
+    show::run::<Pages, _>(&mut out, &script)?;
+    out.flush()
 }

@@ -6,7 +6,7 @@ use script::{command, given};
 use script_values::{Bytes, room};
 use show::{Calls, Shown};
 use std::io;
-use std::io::Write;
+use std::io::{BufWriter, Read, Write};
 
 // Reads a reflected tree and writes its list into so many bytes.
 fn list<W: Write>(out: &mut W, line: &[u8]) -> io::Result<()> {
@@ -31,5 +31,9 @@ impl Calls for Reflected {
 }
 
 fn main(rt: HostRuntime) -> io::Result<()> {
-    show::run::<Reflected>(&rt)
+    let mut script = Vec::new(rt.alloc());
+    rt.stdin().take(show::MOST_BYTES).read_to_end(&mut script)?;
+    let mut out = BufWriter::new(rt.alloc(), io::writer(&rt))?;
+    show::run::<Reflected, _>(&mut out, &script)?;
+    out.flush()
 }

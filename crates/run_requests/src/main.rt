@@ -5,7 +5,7 @@ use script::{command, given};
 use script_values::{Bytes, Columns, room};
 use show::{Calls, Shown};
 use std::io;
-use std::io::Write;
+use std::io::{BufWriter, Read, Write};
 
 fn refine<W: Write>(out: &mut W, line: &[u8]) -> io::Result<()> {
     let mut columns = Columns::of(line);
@@ -52,5 +52,9 @@ impl Calls for Requests {
 }
 
 fn main(rt: HostRuntime) -> io::Result<()> {
-    show::run::<Requests>(&rt)
+    let mut script = Vec::new(rt.alloc());
+    rt.stdin().take(show::MOST_BYTES).read_to_end(&mut script)?;
+    let mut out = BufWriter::new(rt.alloc(), io::writer(&rt))?;
+    show::run::<Requests, _>(&mut out, &script)?;
+    out.flush()
 }

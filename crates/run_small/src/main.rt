@@ -6,7 +6,7 @@ use script_values::{narrow, room};
 use show::{Calls, Shown};
 use small_requests::small_requests;
 use std::io;
-use std::io::Write;
+use std::io::{BufWriter, Read, Write};
 
 // Lists the small requests of a size in so many bytes.
 fn list<W: Write>(out: &mut W, line: &[u8]) -> io::Result<()> {
@@ -28,5 +28,9 @@ impl Calls for Small {
 }
 
 fn main(rt: HostRuntime) -> io::Result<()> {
-    show::run::<Small>(&rt)
+    let mut script = Vec::new(rt.alloc());
+    rt.stdin().take(show::MOST_BYTES).read_to_end(&mut script)?;
+    let mut out = BufWriter::new(rt.alloc(), io::writer(&rt))?;
+    show::run::<Small, _>(&mut out, &script)?;
+    out.flush()
 }

@@ -5,7 +5,7 @@ use script::{command, given};
 use script_values::{Bytes, Columns, room};
 use show::{Calls, Shown};
 use std::io;
-use std::io::Write;
+use std::io::{BufWriter, Read, Write};
 
 fn load<W: Write>(out: &mut W, line: &[u8]) -> io::Result<()> {
     let mut columns = Columns::of(line);
@@ -49,5 +49,9 @@ impl Calls for Stores {
 }
 
 fn main(rt: HostRuntime) -> io::Result<()> {
-    show::run::<Stores>(&rt)
+    let mut script = Vec::new(rt.alloc());
+    rt.stdin().take(show::MOST_BYTES).read_to_end(&mut script)?;
+    let mut out = BufWriter::new(rt.alloc(), io::writer(&rt))?;
+    show::run::<Stores, _>(&mut out, &script)?;
+    out.flush()
 }

@@ -7,7 +7,7 @@ use script::{command, given};
 use script_values::{Columns, narrow};
 use show::{Calls, Shown};
 use std::io;
-use std::io::Write;
+use std::io::{BufWriter, Read, Write};
 
 fn fresh<W: Write>(out: &mut W, line: &[u8]) -> io::Result<()> {
     let mut columns = Columns::of(line);
@@ -71,5 +71,9 @@ impl Calls for Tables {
 }
 
 fn main(rt: HostRuntime) -> io::Result<()> {
-    show::run::<Tables>(&rt)
+    let mut script = Vec::new(rt.alloc());
+    rt.stdin().take(show::MOST_BYTES).read_to_end(&mut script)?;
+    let mut out = BufWriter::new(rt.alloc(), io::writer(&rt))?;
+    show::run::<Tables, _>(&mut out, &script)?;
+    out.flush()
 }

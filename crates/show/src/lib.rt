@@ -8,11 +8,11 @@ ghost use Rattle.show.specs.declared.Shown.TheVariants.{Yes, Not};
 
 use rules::Refusal;
 use script_values::Columns;
-use std::io::{BufWriter, Read, Write};
+use std::io::Write;
 use std::{fmt, io};
 
-// How many bytes of input are read.
-const MOST_BYTES: u64 = 65536;
+// How many bytes of input a test program reads.
+pub const MOST_BYTES: u64 = 65536;
 
 // The calls that a test program makes: it prints what a line's call answers, and nothing where the line names none. A trait, since a function
 // that takes a closure has to ask that it may be called.
@@ -20,19 +20,17 @@ pub trait Calls {
     fn call<W: Write>(out: &mut W, line: &[u8]) -> io::Result<()>;
 }
 
-// Prints each line of a script that is read, with what its call prints. Text after the last line feed is no line.
-pub fn run<C: Calls>(rt: &HostRuntime) -> io::Result<()> {
-    let mut script = Vec::new(rt.alloc());
-    rt.stdin().take(MOST_BYTES).read_to_end(&mut script)?;
-    let mut out = BufWriter::new(rt.alloc(), io::writer(rt))?;
+// Prints each line of a script, with what its call prints. Text after the last line feed is no line. The script is read and the output made by
+// the program: no library reads.
+pub fn run<C: Calls, W: Write>(out: &mut W, script: &[u8]) -> io::Result<()> {
     for piece in script.split_inclusive(|c| *c == b'\n') {
         if let Some(line) = piece.strip_suffix(b"\n") {
             out.write_all(line)?;
-            C::call(&mut out, line)?;
+            C::call(out, line)?;
             out.write_all(b"\n")?;
         }
     }
-    out.flush()
+    Ok(())
 }
 
 // What a call finds.
