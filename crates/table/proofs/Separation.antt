@@ -39,6 +39,10 @@ all_differ_lem (w ∷ t) = rw (none_same w t, all_differ_lem t) (not_or (some_ro
 
 -- ## Boxes
 
+-- the same columns have the same boxes
+pub disjoint_of : {l l' r r' q q' : List ℕ} → l ≡ l' → r ≡ r' → q ≡ q' → all_disjoint (boxes_of l r q) ≡ all_disjoint (boxes_of l' r' q')
+disjoint_of e f g = rw (e, f, g)
+
 abbrev box_for : Row → Box
 box_for w = box_of (low_l w) (low_r w) (size_of w)
 

@@ -57,6 +57,11 @@ decimal_power zero e m k a b l = let u : length (digits 9 1) ≡ 1 = ap length (
     omega (arith, digits_power 9 e 1 (omega arith) (omega arith) (omega arith))
 decimal_power (suc n) e m k a b l = omega (arith, digits_power 9 e (suc n) (omega arith) (omega arith) (omega arith))
 
+-- a number below 10 is its one digit
+pub one_below_ten : (n : ℕ) → n < 10 → decimal n ≡ (n + 48) ∷ []
+unfolding decimal
+one_below_ten n h = one_digit 9 n h
+
 -- 1 to 10 bytes
 pub decimal_count : (n : ℕ) → (1 ≤ length (decimal n)) × (length (decimal n) ≤ 10)
 unfolding decimal

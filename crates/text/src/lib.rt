@@ -15,7 +15,10 @@ use writer::Writer;
 pub fn decimal_length(n: u32) -> usize
     ensures { result ≡ length (decimal n) }
 {
-    n.max(1).ilog10() as usize + 1
+    if n < 10 {
+        return 1;
+    }
+    n.ilog10() as usize + 1
 }
 
 // Writes a number's digits, and moves on past them, by hand, since std's printing has no rule of all or none: 30, and none of them, where the buffer is too short.
@@ -23,6 +26,10 @@ pub fn write_decimal(writer: &mut Writer<'_>, n: u32) -> Result<usize, Refusal>
     ensures result_value { says result ≡ written writer.old.buffer.now writer.old.at (decimal n) }
     ensures wrote { Wrote writer.old writer.new (decimal n) }
 {
+    // Most numbers of a line have one digit, which asks for no logarithm and no division.
+    if n < 10 {
+        return writer.byte((n + 48) as u8);
+    }
     let count = decimal_length(n);
     if writer.too_short(count) {
         return Err(Refusal::BufferShort);

@@ -3,8 +3,14 @@ use Rattle.rules.specs.Answers.{answer}
 use Rattle.rules.proofs.Buffers.{written_all}
 use Rattle.writer.proofs.Writing.{none_written, all_written, no_room_answer}
 use Rattle.text.specs.Decimal.{decimal}
+use Rattle.text.proofs.Laws.{one_below_ten}
 use Rattle.text.proofs.Writing.{begins, goes_on, ends}
 use Rattle.text.proofs.write_decimal.Goals as goal
+
+pub returns-then-n-lt10 : goal.returns-then-n-lt10
+returns-then-n-lt10 c =
+    let e = one_below_ten c.args.n c.if-n-lt10.true in
+    record { result_value = rw e c.byte.ensures.value; wrote = rw e c.byte.ensures.wrote }
 
 pub returns-then-too_short : goal.returns-then-too_short
 returns-then-too_short c =
