@@ -48,7 +48,10 @@ impl Calls for Decisions {
     fn call<W: Write>(out: &mut W, line: &[u8]) -> io::Result<()> {
         match command(line) {
             Some(b'd') => show::answer(out, decide(line)),
-            Some(b'q') => show::answer(out, decide::question(Bytes::of(line).as_slice()).map(shown)),
+            Some(b'q') => show::answer(
+                out,
+                decide::question(Bytes::of(line).as_slice()).map(shown),
+            ),
             Some(b'm') => may(out, line),
             _ => Ok(()),
         }
