@@ -51,8 +51,12 @@ items_from (suc k) section m (Letters word ∷ tokens) =
 abbrev pub items_left : Items → List Item
 items_left s = items_from s.turns s.section s.member (tokens_left s.tokens)
 
+-- a line's items, at most `most` of them
+abbrev pub items_up_to : ℕ → List ℕ → List Item
+items_up_to most line = items_from most None (member_of 0 0 0 0) (tokens_of line)
+
 abbrev pub items_of : List ℕ → List Item
-items_of line = items_from 131072 None (member_of 0 0 0 0) (tokens_of line)
+items_of line = items_up_to 131072 line
 
 -- the letter of the word that a line begins with
 abbrev pub word_first : List Token → Option ℕ

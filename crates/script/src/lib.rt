@@ -4,7 +4,7 @@
 ghost use Rattle.std.specs.Prelude.{◌≡◌, ◌<◌, IfSome};
 ghost use Rattle.std.specs.Iterator.{YieldsFirst, item_count};
 ghost use Rattle.script.specs.Words.{digit_of, longer, numeral_with, run_at, token_with, tokens_of, tokens_left};
-ghost use Rattle.script.specs.Items.{member_after, first_member, items_of, items_left, command_of, given_of};
+ghost use Rattle.script.specs.Items.{member_after, first_member, items_of, items_up_to, items_left, command_of, given_of};
 
 // Most items of a line.
 const MOST_ITEMS: usize = 131072;
@@ -206,9 +206,16 @@ impl<'a> Iterator for Tokens<'a> {
 }
 
 impl<'a> Items<'a> {
-    // All of a line, but no more than there may be.
+    // Of a line as many as the test programs go over: a run may stand for more than anyone waits for.
     pub fn new(line: &'a [u8]) -> Items<'a>
         ensures { items_left result ≡ items_of line.now }
+    {
+        Items::at_most(line, MOST_ITEMS)
+    }
+
+    // A line's items, one after another, but no more than so many.
+    pub fn at_most(line: &'a [u8], most: usize) -> Items<'a>
+        ensures { items_left result ≡ items_up_to most line.now }
     {
         Items {
             tokens: Tokens { rest: line },
@@ -219,7 +226,7 @@ impl<'a> Items<'a> {
                 left: 0,
                 step: 0,
             },
-            turns: MOST_ITEMS,
+            turns: most,
         }
     }
 }
