@@ -4,7 +4,8 @@ use mathlib.Core.Bool.{true, false}
 use mathlib.Core.List.{List}
 use Prim.Native.Nat.{ℕ, ◌≤◌}
 use native.Mathlib.Omega.{arith}
-use lib.ListN.{length}
+use lib.ListN.{length, take}
+use Rattle.std.proofs.lemmas.List.{length-take}
 use Rattle.rules.specs.Capacities.{row_capacity}
 use Rattle.rules.specs.Answers.{Answer, answer, refused, then, given}
 use Rattle.number.specs.Number.{number_at}
@@ -78,7 +79,14 @@ were_read u d bytes e =
     let n : length (rows_of u) ≡ length u.id.now = rows_length (columns_of u) 0 (length u.id.now) in
     (ap answer (sym n) ∙ ap counted e, sym (put_in_use u d) ∙ ap (λ a. afterwards a d) e)
 
--- they fit into columns that have the count
+-- the front rows of work columns fit into columns that have so many
+pub fronts_in : (d w : Columns) {count : ℕ} → lengths_bad d ≡ false → count ≤ length d.id
+    → (length (take count w.id) ≤ length d.id) × (length (take count w.l) ≤ length d.l) × (length (take count w.r) ≤ length d.r) × (length (take count w.q) ≤ length d.q)
+fronts_in d w {count} good fits =
+    let l = lengths_good d good in
+    (omega (arith, length-take count w.id), omega (arith, length-take count w.l, l.in_l), omega (arith, length-take count w.r, l.in_r), omega (arith, length-take count w.q, l.in_q))
+
+-- rows in use fit into columns that have the count
 pub room_in : (u : RowsInUse) (d : Columns) {w : Columns} {count : ℕ} → lengths_bad d ≡ false → count ≤ length d.id → Cut u w count
     → (length u.id.now ≤ length d.id) × (length u.l.now ≤ length d.l) × (length u.r.now ≤ length d.r) × (length u.q.now ≤ length d.q)
 room_in u d good fits k =

@@ -5,7 +5,7 @@ use Rattle.rules.specs.Answers.{answer, given}
 use Rattle.table.specs.Columns.{columns}
 use Rattle.load.specs.Work.{work_columns}
 use Rattle.table.proofs.Passing.{check_passed}
-use Rattle.load.proofs.Checking.{rows_checked_lem, not_read, bad_lengths, no_count, bad_count, rows_on, count_fits, room_in, were_read}
+use Rattle.load.proofs.Checking.{rows_checked_lem, not_read, bad_lengths, no_count, bad_count, rows_on, count_fits, fronts_in, were_read}
 use Rattle.load.proofs.reading.read.Goals as goal
 
 pub returns-then-lengths_bad : goal.returns-then-lengths_bad
@@ -57,36 +57,28 @@ copy-requires c =
     let d = columns c.args.id.now c.args.l.now c.args.r.now c.args.q.now in
     let good = sym c.lengths_bad.ensures ∙ c.if-lengths_bad.false in
     let fits = sym c.count_bad.ensures ∙ c.if-count_bad.false in
-    let n = count_fits d c.args.bytes.now good c.in_ok-first.ensures fits in
-    let k = c.in_ok-rows.ensures.cut in
-    rw k.id at (room_in c.in_ok-rows.rows d good n.1 k).0
+    (fronts_in d (work_columns c.rows_to_end.new.work) good (count_fits d c.args.bytes.now good c.in_ok-first.ensures fits).1).0
 
 pub copy-requires-2 : goal.copy-requires-2
 copy-requires-2 c =
     let d = columns c.args.id.now c.args.l.now c.args.r.now c.args.q.now in
     let good = sym c.lengths_bad.ensures ∙ c.if-lengths_bad.false in
     let fits = sym c.count_bad.ensures ∙ c.if-count_bad.false in
-    let n = count_fits d c.args.bytes.now good c.in_ok-first.ensures fits in
-    let k = c.in_ok-rows.ensures.cut in
-    rw k.l at (room_in c.in_ok-rows.rows d good n.1 k).1
+    (fronts_in d (work_columns c.rows_to_end.new.work) good (count_fits d c.args.bytes.now good c.in_ok-first.ensures fits).1).1
 
 pub copy-requires-3 : goal.copy-requires-3
 copy-requires-3 c =
     let d = columns c.args.id.now c.args.l.now c.args.r.now c.args.q.now in
     let good = sym c.lengths_bad.ensures ∙ c.if-lengths_bad.false in
     let fits = sym c.count_bad.ensures ∙ c.if-count_bad.false in
-    let n = count_fits d c.args.bytes.now good c.in_ok-first.ensures fits in
-    let k = c.in_ok-rows.ensures.cut in
-    rw k.r at (room_in c.in_ok-rows.rows d good n.1 k).2
+    (fronts_in d (work_columns c.rows_to_end.new.work) good (count_fits d c.args.bytes.now good c.in_ok-first.ensures fits).1).2
 
 pub copy-requires-4 : goal.copy-requires-4
 copy-requires-4 c =
     let d = columns c.args.id.now c.args.l.now c.args.r.now c.args.q.now in
     let good = sym c.lengths_bad.ensures ∙ c.if-lengths_bad.false in
     let fits = sym c.count_bad.ensures ∙ c.if-count_bad.false in
-    let n = count_fits d c.args.bytes.now good c.in_ok-first.ensures fits in
-    let k = c.in_ok-rows.ensures.cut in
-    rw k.q at (room_in c.in_ok-rows.rows d good n.1 k).3
+    (fronts_in d (work_columns c.rows_to_end.new.work) good (count_fits d c.args.bytes.now good c.in_ok-first.ensures fits).1).3
 
 pub returns : goal.returns
 returns c =
