@@ -18,8 +18,8 @@
  *
  * The library keeps no state: calls on different tables may run at the same time.
  * It allocates nothing and makes no system call. Of the C library it uses memcpy and memset.
- * Stack need in bytes (measured): fresh 89, decide 112, page 176, small_requests 680,
- * order 4664, store 4744, reflected 5872, read 8888, refine 15080.
+ * Stack need in bytes (measured): fresh 89, decide 112, page 200, small_requests 792,
+ * order 4664, store 4744, reflected 5872, read 8840, refine 15080.
  *
  * The table is four columns of 32-bit numbers: id, l, r and q (quota). All have one length,
  * 1 to 256. A count says how many rows are in use; rows past it have no meaning. The caller
