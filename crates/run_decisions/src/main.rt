@@ -22,22 +22,30 @@ fn shown(decided: Decided) -> Shown {
 
 // By a feature, a pass and a day.
 fn decide(line: &[u8]) -> Result<Shown, Refusal> {
+    let mut grants = Bytes::empty();
+    grants.fill(line);
     let decided = decide::decide(
         narrow(given(line, 0)),
         narrow(given(line, 1)),
         narrow(given(line, 2)),
         narrow(given(line, 3)),
-        Bytes::of(line).as_slice(),
+        grants.as_slice(),
     );
     decided.map(shown)
+}
+
+// Of a question in bytes.
+fn question(line: &[u8]) -> Result<Decided, Refusal> {
+    let mut bytes = Bytes::empty();
+    bytes.fill(line);
+    decide::question(bytes.as_slice())
 }
 
 // Writes the line that `may` prints of a question into so many bytes.
 fn may<W: Write>(out: &mut W, line: &[u8]) -> io::Result<()> {
     let mut buffer = show::unwritten();
     let mut writer = Writer::new(&mut buffer[..room(given(line, 0))], 0);
-    let decided = decide::question(Bytes::of(line).as_slice());
-    let written = decision_line::write_decision(&mut writer, decided);
+    let written = decision_line::write_decision(&mut writer, question(line));
     show::written(out, written.map(Shown::Bytes), &buffer, true)
 }
 
@@ -48,10 +56,7 @@ impl Calls for Decisions {
     fn call<W: Write>(out: &mut W, line: &[u8]) -> io::Result<()> {
         match command(line) {
             Some(b'd') => show::answer(out, decide(line)),
-            Some(b'q') => show::answer(
-                out,
-                decide::question(Bytes::of(line).as_slice()).map(shown),
-            ),
+            Some(b'q') => show::answer(out, question(line).map(shown)),
             Some(b'm') => may(out, line),
             _ => Ok(()),
         }

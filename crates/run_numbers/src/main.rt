@@ -11,8 +11,10 @@ use std::io::{BufWriter, Read, Write};
 use writer::Writer;
 
 // The number at a position of some bytes: its value, and the position after it.
-fn number<W: Write>(out: &mut W, bytes: &[u8], at: u64) -> io::Result<()> {
-    let number = number::number_at(bytes, at as usize);
+fn number<W: Write>(out: &mut W, line: &[u8]) -> io::Result<()> {
+    let mut bytes = Bytes::empty();
+    bytes.fill(line);
+    let number = number::number_at(bytes.as_slice(), given(line, 0) as usize);
     show::answer(out, number.map(|n| Shown::Number(n.value)))?;
     number.map_or(Ok(()), |n| write!(out, " {}", n.next))
 }
@@ -73,7 +75,7 @@ struct Numbers;
 impl Calls for Numbers {
     fn call<W: Write>(out: &mut W, line: &[u8]) -> io::Result<()> {
         match command(line) {
-            Some(b'n') => number(out, Bytes::of(line).as_slice(), given(line, 0)),
+            Some(b'n') => number(out, line),
             Some(b'w') => write(out, line),
             Some(b'h') => write!(
                 out,

@@ -19,12 +19,14 @@ fn date<W: Write>(out: &mut W, line: &[u8]) -> io::Result<()> {
 
 // Writes the page of a pass on a day into so many bytes.
 fn page<W: Write>(out: &mut W, line: &[u8]) -> io::Result<()> {
+    let mut grants = Bytes::empty();
+    grants.fill(line);
     let mut buffer = show::unwritten();
     let written = page::page(
         narrow(given(line, 0)),
         narrow(given(line, 1)),
         narrow(given(line, 2)),
-        Bytes::of(line).as_slice(),
+        grants.as_slice(),
         &mut buffer[..room(given(line, 3))],
     );
     show::written(out, written.map(Shown::Bytes), &buffer, true)

@@ -10,11 +10,10 @@ use std::io::{BufWriter, Read, Write};
 
 // Reads a reflected tree and writes its list into so many bytes.
 fn list<W: Write>(out: &mut W, line: &[u8]) -> io::Result<()> {
+    let mut tree = Bytes::empty();
+    tree.fill(line);
     let mut buffer = show::unwritten();
-    let written = reflected(
-        Bytes::of(line).as_slice(),
-        &mut buffer[..room(given(line, 0))],
-    );
+    let written = reflected(tree.as_slice(), &mut buffer[..room(given(line, 0))]);
     show::written(out, written.map(Shown::Bytes), &buffer, false)
 }
 

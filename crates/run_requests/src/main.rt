@@ -9,13 +9,15 @@ use std::io::{BufWriter, Read, Write};
 
 fn refine<W: Write>(out: &mut W, line: &[u8]) -> io::Result<()> {
     let mut columns = Columns::of(line);
+    let mut request = Bytes::empty();
+    request.fill(line);
     let counted = refine::refine(
         columns.id.as_mut_slice(),
         columns.l.as_mut_slice(),
         columns.r.as_mut_slice(),
         columns.q.as_mut_slice(),
         given(line, 0) as usize,
-        Bytes::of(line).as_slice(),
+        request.as_slice(),
     );
     show::answer(out, counted.map(Shown::Count))?;
     show::columns(out, &columns)
@@ -24,9 +26,11 @@ fn refine<W: Write>(out: &mut W, line: &[u8]) -> io::Result<()> {
 // Carries out a log, with so many bytes for its text.
 fn grow<W: Write>(out: &mut W, line: &[u8]) -> io::Result<()> {
     let mut columns = Columns::of(line);
+    let mut log = Bytes::empty();
+    log.fill(line);
     let mut buffer = show::unwritten();
     let grown = replay::grow(
-        Bytes::of(line).as_slice(),
+        log.as_slice(),
         columns.id.as_mut_slice(),
         columns.l.as_mut_slice(),
         columns.r.as_mut_slice(),

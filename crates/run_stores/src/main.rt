@@ -9,12 +9,14 @@ use std::io::{BufWriter, Read, Write};
 
 fn load<W: Write>(out: &mut W, line: &[u8]) -> io::Result<()> {
     let mut columns = Columns::of(line);
+    let mut bytes = Bytes::empty();
+    bytes.fill(line);
     let counted = load::read(
         columns.id.as_mut_slice(),
         columns.l.as_mut_slice(),
         columns.r.as_mut_slice(),
         columns.q.as_mut_slice(),
-        Bytes::of(line).as_slice(),
+        bytes.as_slice(),
     );
     show::answer(out, counted.map(Shown::Count))?;
     show::columns(out, &columns)

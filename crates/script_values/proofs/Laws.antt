@@ -12,14 +12,10 @@ use Rattle.number.specs.Number.{bytes_of}
 use Rattle.script.specs.declared.Item.{Item}
 use Rattle.script.specs.declared.Item.TheVariants.{Word}
 use Rattle.script_values.specs.Values.{narrowed}
-use Rattle.script_values.specs.Filled.{none_of}
-use Rattle.script_values.specs.Bytes.{Bytes, Given, given_by, byte_put, number_put, entry_put, until_from, bytes_until, bytes_from, bytes_of_line, filled_of}
+use Rattle.script_values.specs.Bytes.{Given, given_by, byte_put, number_put, entry_put, until_from, bytes_until, bytes_from}
 
 abbrev given : ℕ → List ℕ → Given
 given i x = record { count = i; bytes = x }
-
-abbrev full : List ℕ → ℕ → Bytes
-full items n = record { items = items; len = n }
 
 same_given : {i j : ℕ} {x y : List ℕ} → i ≡ j → x ≡ y → given i x ≡ given j y
 same_given e f = rw (e, f)
@@ -36,12 +32,6 @@ entry_put_lem id g e f h = h ∙ ap (number_put 0) (f ∙ ap (number_put 1) e)
 pub bytes_until_lem : (items : List Item) (from : ℕ) (g : Given) → bytes_from (Word (Some 117) ∷ items) from g ≡ bytes_from items from g
 unfolding bytes_from
 bytes_until_lem items from g = refl
-
--- in a buffer of zeros
-pub filled_lem : (line : List ℕ) {f : Bytes} {n : ℕ} {items : List ℕ} → f ≡ none_of 65536 0 → n ≡ (bytes_of_line line f.items).count
-    → items ≡ (bytes_of_line line f.items).bytes → full items n ≡ filled_of line
-unfolding none_of
-filled_lem line e c b = rw (c, b, e)
 
 -- a writer's place after some bytes, as it counts them
 placed : (buffer : List ℕ) (at : ℕ) (bytes : List ℕ) → place_after buffer at bytes ≡ at + or_else (written buffer at bytes) 0

@@ -1,5 +1,5 @@
 -- The bytes that a script's line gives, item by item.
-use Rattle.std.specs.Prelude.{ℕ, zero, suc, ◌+◌, ◌-◌, cond, List, [], ◌∷◌, ◌==◌, nat_lt, length, slice_set, slice_index, replicate, Option, None, Some}
+use Rattle.std.specs.Prelude.{ℕ, zero, suc, ◌+◌, ◌-◌, cond, List, [], ◌∷◌, ◌==◌, nat_lt, length, slice_set, slice_index, Option, None, Some}
 use Rattle.rules.specs.Answers.{or_else}
 use Rattle.rules.specs.Buffers.{written, after}
 use Rattle.writer.specs.declared.Writer.{Writer}
@@ -60,9 +60,9 @@ bytes_from [] from g = g
 bytes_from (Number section value byte ∷ items) from g = bytes_from items from (item_put section value byte from g)
 bytes_from (Word word ∷ items) from g = bytes_from items (from_word word from g) g
 
--- in a buffer, and in one of 65536 zeros
+-- in a buffer, and in the place of those that an array had before
 abbrev pub bytes_of_line : List ℕ → List ℕ → Given
 bytes_of_line line buffer = bytes_from (items_of line) 0 (record { count = 0; bytes = buffer })
 
-abbrev pub filled_of : List ℕ → Bytes
-filled_of line = let g = bytes_of_line line (replicate 65536 0) in record { items = g.bytes; len = g.count }
+abbrev pub filled_with : List ℕ → Bytes → Bytes
+filled_with line before = let g = bytes_of_line line before.items in record { items = g.bytes; len = g.count }

@@ -1,6 +1,7 @@
 // The bytes that a script's line gives.
 ghost use Rattle.std.specs.Prelude.{◌≡◌};
-ghost use Rattle.script_values.specs.Bytes.{given_by, byte_put, number_put, entry_put, bytes_until, item_put, bytes_of_line, filled_of};
+ghost use Rattle.script_values.specs.Filled.{none_of};
+ghost use Rattle.script_values.specs.Bytes.{given_by, byte_put, number_put, entry_put, bytes_until, item_put, bytes_of_line, filled_with};
 
 use crate::filled::Filled;
 use crate::narrow;
@@ -12,15 +13,18 @@ use writer::Writer;
 pub type Bytes = Filled<u8, 65536>;
 
 impl Filled<u8, 65536> {
-    // The bytes that a line gives. Inline, so that they are given in their place and not copied.
-    #[inline(always)]
-    #[tactic(auto, using(crate::proofs::Laws::filled_lem))]
-    pub fn of(line: &[u8]) -> Bytes
-        ensures { result ≡ filled_of line.now }
+    // None yet.
+    pub fn empty() -> Bytes
+        ensures { result ≡ none_of 65536 0 }
     {
-        let mut given = Filled::none(0);
-        given.len = bytes(line, &mut given.items);
-        given
+        Filled::none(0)
+    }
+
+    // The bytes that a line gives, in the place of those before. In place, since so many bytes are copied where a call answers them.
+    pub fn fill(&mut self, line: &[u8])
+        ensures { self.new ≡ filled_with line.now self.old }
+    {
+        self.len = bytes(line, &mut self.items);
     }
 }
 
