@@ -49,7 +49,7 @@ fn may<W: Write>(out: &mut W, line: &[u8]) -> io::Result<()> {
     show::written(out, written.map(Shown::Bytes), &buffer, true)
 }
 
-// Each program's own calls, by their letters: one `main` for all would be no plainer.
+// The program's calls, by their letters.
 struct Decisions;
 
 impl Calls for Decisions {

@@ -68,8 +68,7 @@ fn show_cut<W: Write>(out: &mut W, cut: Option<Cut>) -> io::Result<()> {
     }
 }
 
-// The call that a line's first word names, with the bytes that the line gives. Each program has its own calls, by their letters: one `main`
-// for all would be no plainer.
+// The program's calls, by their letters.
 struct Numbers;
 
 impl Calls for Numbers {

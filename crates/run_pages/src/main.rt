@@ -32,7 +32,7 @@ fn page<W: Write>(out: &mut W, line: &[u8]) -> io::Result<()> {
     show::written(out, written.map(Shown::Bytes), &buffer, true)
 }
 
-// Each program's own calls, by their letters: one `main` for all would be no plainer.
+// The program's calls, by their letters.
 struct Pages;
 
 impl Calls for Pages {

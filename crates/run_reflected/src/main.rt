@@ -17,7 +17,7 @@ fn list<W: Write>(out: &mut W, line: &[u8]) -> io::Result<()> {
     show::written(out, written.map(Shown::Bytes), &buffer, false)
 }
 
-// Each program's own calls, by their letters: one `main` for all would be no plainer.
+// The program's calls, by their letters.
 struct Reflected;
 
 impl Calls for Reflected {

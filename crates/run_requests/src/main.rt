@@ -42,7 +42,7 @@ fn grow<W: Write>(out: &mut W, line: &[u8]) -> io::Result<()> {
     show::columns(out, &columns)
 }
 
-// Each program's own calls, by their letters: one `main` for all would be no plainer.
+// The program's calls, by their letters.
 struct Requests;
 
 impl Calls for Requests {

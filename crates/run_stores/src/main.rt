@@ -37,7 +37,7 @@ fn store<W: Write>(out: &mut W, line: &[u8]) -> io::Result<()> {
     show::written(out, stored.map(Shown::Bytes), &buffer, false)
 }
 
-// Each program's own calls, by their letters: one `main` for all would be no plainer.
+// The program's calls, by their letters.
 struct Stores;
 
 impl Calls for Stores {

@@ -56,7 +56,7 @@ fn order(line: &[u8]) -> Result<Shown, Refusal> {
     })
 }
 
-// Each program's own calls, by their letters: one `main` for all would be no plainer.
+// The program's calls, by their letters.
 struct Tables;
 
 impl Calls for Tables {
