@@ -6,6 +6,9 @@ ghost use Rattle.std.specs.Prelude.{◌≡◌, ◌≤◌, length, replicate, if�
 ghost use Rattle.show.specs.Shown.{used_of, between_of};
 ghost use Rattle.show.specs.declared.Shown.TheVariants.{Yes, Not};
 
+#[cfg(test)]
+mod tests;
+
 use rules::Refusal;
 use script_values::Columns;
 use std::io::Write;
@@ -27,6 +30,23 @@ pub fn run<C: Calls, W: Write>(out: &mut W, script: &[u8]) -> io::Result<()> {
         if let Some(line) = piece.strip_suffix(b"\n") {
             out.write_all(line)?;
             C::call(out, line)?;
+            out.write_all(b"\n")?;
+        }
+    }
+    Ok(())
+}
+
+// What makes the calls by a value, which may keep what they look at. It can be asked for any line.
+pub trait Caller<W> {
+    fn call(&self, out: &mut W, line: &[u8]) -> io::Result<()>;
+}
+
+// The same run, by such a value. It has a loop of its own, so that the programs' code stays as it is.
+pub fn run_by<W: Write, C: Caller<W>>(out: &mut W, script: &[u8], caller: &C) -> io::Result<()> {
+    for piece in script.split_inclusive(|c| *c == b'\n') {
+        if let Some(line) = piece.strip_suffix(b"\n") {
+            out.write_all(line)?;
+            caller.call(out, line)?;
             out.write_all(b"\n")?;
         }
     }
