@@ -36,7 +36,7 @@ pub fn run<C: Calls, W: Write>(out: &mut W, script: &[u8]) -> io::Result<()> {
     Ok(())
 }
 
-// What makes the calls by a value, which may keep what they look at. It can be asked for any line.
+// A value that makes the calls, and may keep what they look at. It can be asked for any line.
 pub trait Caller<W> {
     fn call(&self, out: &mut W, line: &[u8]) -> io::Result<()>;
 }
